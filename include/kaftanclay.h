@@ -52,6 +52,8 @@ enum {
 
 typedef struct { void *object; } kc_theta;             /* a theta sketch that takes updates */
 typedef struct { void *object; } kc_compact;           /* a compact theta sketch, which never changes */
+typedef struct { void *object; } kc_text;              /* a text whose lines update a sketch */
+typedef struct { void *object; } kc_batch;             /* a batch of theta sketches */
 typedef struct { void *object; } kc_union;             /* a union of theta sketches */
 typedef struct { void *object; } kc_intersection;      /* an intersection of theta sketches */
 typedef struct { void *object; } kc_sums;              /* a tuple sketch whose summaries are sums of 64 bits */
@@ -118,6 +120,26 @@ kc_status kc_theta_compact(const kc_theta *sketch, kc_compact *out);
 kc_status kc_theta_update_strings(kc_theta *sketch, const void *bytes, size_t bytes_count, const uint64_t *ends,
                                   size_t ends_count);
 
+/* ---- The lines of a text ---- */
+
+/* Begins a text and puts it into a handle. Its lines are hashed whole, without the LF that ends each, under this seed.
+ * Refused with KC_INVALID_ARGUMENT if the handle has a text already, and with KC_OUT_OF_MEMORY; then the handle is as
+ * before. */
+kc_status kc_text_new(kc_text *text, uint64_t seed);
+/* Frees the text of a handle. A handle without one stays as it is. */
+kc_status kc_text_free(kc_text *text);
+/* Updates a sketch with the lines that end in the next piece of a text, each by its hash. A text may be cut into pieces
+ * anywhere, also within a line: the text keeps the state of its open line's hash. Once the text is ended, exactly the
+ * lines of all its pieces have been inserted, as kc_theta_update_bytes inserts each. Other updates may come in between.
+ * Refused with KC_INVALID_ARGUMENT if a handle has no object or the text is of another seed than the sketch; then
+ * nothing has changed. Refused with KC_OUT_OF_MEMORY; then exactly some first lines of the piece have been inserted,
+ * perhaps none, the text is as before, and the same call may be repeated. */
+kc_status kc_theta_update_text(kc_theta *sketch, kc_text *text, const void *piece, size_t count);
+/* Ends a text: updates the sketch with a last line that no LF ends, if it has a byte. The handle is then ready for
+ * another text. Refused with KC_INVALID_ARGUMENT if a handle has no object or the text is of another seed than the
+ * sketch, and with KC_OUT_OF_MEMORY; then nothing has changed, and the same call may be repeated. */
+kc_status kc_theta_end_text(kc_theta *sketch, kc_text *text);
+
 /* ---- Compact theta sketches ---- */
 
 /* Reads the sketch that the bytes begin with, under this seed; bytes after it are ignored. Serial versions 1, 2 and 3
@@ -156,6 +178,33 @@ kc_status kc_union_result(const kc_union *u, kc_compact *out);
 kc_status kc_union_image(const kc_union *u, void *out, size_t room, uint64_t *length);
 /* Makes the union empty again, as when it was new, and ends a failure. */
 kc_status kc_union_reset(kc_union *u);
+
+/* ---- Many sketches at once ---- */
+
+/* Makes a batch without sketches and puts it into a handle. Images will be read under this seed. Refused with
+ * KC_INVALID_ARGUMENT if the handle has a batch already, and with KC_OUT_OF_MEMORY; then the handle is as before. */
+kc_status kc_batch_new(kc_batch *batch, uint64_t seed);
+/* Frees the batch of a handle, with its sketches. A handle without one stays as it is. */
+kc_status kc_batch_free(kc_batch *batch);
+/* Puts a copy of a sketch that takes updates into a batch, its ordered compact form. The sketch doesn't change, and
+ * later updates don't change the copy. Its seed is checked when the batch is merged. Refused with KC_INVALID_ARGUMENT
+ * if a handle has no object, and with KC_OUT_OF_MEMORY; then the batch has the same sketches as before. */
+kc_status kc_batch_add(kc_batch *batch, const kc_theta *sketch);
+/* Puts a copy of a compact sketch into a batch, as kc_batch_add does. */
+kc_status kc_batch_add_compact(kc_batch *batch, const kc_compact *sketch);
+/* Puts the sketch that the bytes begin with into a batch, read under the batch's seed. Refused with KC_INVALID_DATA if
+ * the bytes begin with no sketch of this seed, and otherwise as kc_batch_add is; then the batch has the same sketches
+ * as before. */
+kc_status kc_batch_add_image(kc_batch *batch, const void *image, size_t count);
+/* Takes all sketches out of a batch. Refused with KC_INVALID_ARGUMENT if the handle has no batch. */
+kc_status kc_batch_reset(kc_batch *batch);
+/* Merges all sketches of a batch into a union, which then has the value of one kc_union_add after another. For many
+ * sketches with different hashes it takes a fraction of the time. The batch doesn't change. Empty sketches change
+ * nothing, and their seeds are not checked. Refused with KC_INVALID_ARGUMENT if a handle has no object or a sketch is
+ * of another seed, and with KC_FAILED if the union has failed, whatever the sketches; then none is merged and nothing
+ * has changed. Refused with KC_OUT_OF_MEMORY: if memory runs out in the merge, the union has failed until it is reset;
+ * if it runs out before, none is merged and nothing has changed. */
+kc_status kc_union_add_batch(kc_union *u, const kc_batch *batch);
 
 /* ---- Intersections and differences ---- */
 

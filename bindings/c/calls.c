@@ -8,6 +8,8 @@
 
 _Static_assert(sizeof(kc_theta) == 8, "the layout of the proved library");
 _Static_assert(sizeof(kc_compact) == 8, "the layout of the proved library");
+_Static_assert(sizeof(kc_text) == 8, "the layout of the proved library");
+_Static_assert(sizeof(kc_batch) == 8, "the layout of the proved library");
 _Static_assert(sizeof(kc_union) == 8, "the layout of the proved library");
 _Static_assert(sizeof(kc_intersection) == 8, "the layout of the proved library");
 _Static_assert(sizeof(kc_sums) == 8, "the layout of the proved library");
@@ -108,6 +110,29 @@ kc_status kc_theta_update_strings(kc_theta *sketch, const void *bytes, size_t by
     return kcp_theta_update_strings(sketch, INPUT(bytes), bytes_count, NUMBERS(ends, 0), ends_count);
 }
 
+/* ---- The lines of a text ---- */
+
+kc_status kc_text_new(kc_text *text, uint64_t seed) {
+    REFUSE_UNLESS(text != NULL);
+    return kcp_text_new(text, seed);
+}
+
+kc_status kc_text_free(kc_text *text) {
+    REFUSE_UNLESS(text != NULL);
+    kcp_text_free(text);
+    return KC_OK;
+}
+
+kc_status kc_theta_update_text(kc_theta *sketch, kc_text *text, const void *piece, size_t count) {
+    REFUSE_UNLESS(sketch != NULL && text != NULL && IS_BUFFER(piece, count));
+    return kcp_theta_update_text(sketch, text, INPUT(piece), count);
+}
+
+kc_status kc_theta_end_text(kc_theta *sketch, kc_text *text) {
+    REFUSE_UNLESS(sketch != NULL && text != NULL);
+    return kcp_theta_end_text(sketch, text);
+}
+
 /* ---- Compact theta sketches ---- */
 
 kc_status kc_compact_read(kc_compact *sketch, const void *image, size_t count, uint64_t seed) {
@@ -177,6 +202,44 @@ kc_status kc_union_image(const kc_union *u, void *out, size_t room, uint64_t *le
 kc_status kc_union_reset(kc_union *u) {
     REFUSE_UNLESS(u != NULL);
     return kcp_union_reset(u);
+}
+
+/* ---- Many sketches at once ---- */
+
+kc_status kc_batch_new(kc_batch *batch, uint64_t seed) {
+    REFUSE_UNLESS(batch != NULL);
+    return kcp_batch_new(batch, seed);
+}
+
+kc_status kc_batch_free(kc_batch *batch) {
+    REFUSE_UNLESS(batch != NULL);
+    kcp_batch_free(batch);
+    return KC_OK;
+}
+
+kc_status kc_batch_add(kc_batch *batch, const kc_theta *sketch) {
+    REFUSE_UNLESS(batch != NULL && sketch != NULL);
+    return kcp_batch_add(batch, (kc_theta *)sketch);
+}
+
+kc_status kc_batch_add_compact(kc_batch *batch, const kc_compact *sketch) {
+    REFUSE_UNLESS(batch != NULL && sketch != NULL);
+    return kcp_batch_add_compact(batch, (kc_compact *)sketch);
+}
+
+kc_status kc_batch_add_image(kc_batch *batch, const void *image, size_t count) {
+    REFUSE_UNLESS(batch != NULL && IS_BUFFER(image, count));
+    return kcp_batch_add_image(batch, INPUT(image), count);
+}
+
+kc_status kc_batch_reset(kc_batch *batch) {
+    REFUSE_UNLESS(batch != NULL);
+    return kcp_batch_reset(batch);
+}
+
+kc_status kc_union_add_batch(kc_union *u, const kc_batch *batch) {
+    REFUSE_UNLESS(u != NULL && batch != NULL);
+    return kcp_union_add_batch(u, (kc_batch *)batch);
 }
 
 /* ---- Intersections and differences ---- */

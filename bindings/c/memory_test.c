@@ -126,6 +126,41 @@ static void many_updates(void) {
     }
 }
 
+/* The lines of a text in two pieces, cut within a line. */
+static void lines(void) {
+    kc_theta s = {0};
+    kc_text t = {0};
+    static char lines[MOST * 6];
+    size_t count = 0, piece = 0;
+    for (uint64_t n = 0; n < updates; n++) count += (size_t)sprintf(lines + count, n + 1 < updates ? "%d\n" : "%d", (int)n);
+    piece = count / 2;
+    UNREFUSED(WANT(kc_theta_new(&s, LG_K, SEED) == KC_OK));
+    kc_status status = CALL(text_new, &t, SEED);
+    WANT(MAKES(status, t));
+    if (t.object != NULL) {
+        for (int part = 0; part < 2; part++) {
+            status = CALL(theta_update_text, &s, &t, lines + part * piece, part == 0 ? piece : count - piece);
+            WANT(IS(status) && (status == KC_OK || has_first(&s, of_strings, 0, updates - 1)));
+            if (status != KC_OK) WANT(kc_theta_update_text(&s, &t, lines + part * piece, part == 0 ? piece : count - piece) == KC_OK);
+        }
+        WANT(has_first(&s, of_strings, updates - 1, updates - 1));
+        status = CALL(theta_end_text, &s, &t);
+        WANT(IS(status) && (status == KC_OK || (has_first(&s, of_strings, updates - 1, updates - 1) && kc_theta_end_text(&s, &t) == KC_OK)));
+        WANT(has_first(&s, of_strings, updates, updates) && kc_text_free(&t) == KC_OK);
+        /* a last line that needs memory: the 17th hash of 2^5 nominal entries whose slots double requests more of them */
+        kc_theta few = {0};
+        UNREFUSED(WANT(kc_theta_new_with(&few, 5, SEED, 2, KC_MAX_THETA) == KC_OK && kc_theta_update_hashes(&few, of_strings, 16) == KC_OK && kc_text_new(&t, SEED) == KC_OK));
+        status = CALL(theta_update_text, &few, &t, "16", 2);
+        WANT(status == KC_OK);
+        status = CALL(theta_end_text, &few, &t);
+        kc_state state;
+        WANT(IS(status) && kc_theta_state(&few, &state) == KC_OK && state.retained == (status == KC_OK ? 17 : 16));
+        if (status != KC_OK) WANT(kc_theta_end_text(&few, &t) == KC_OK && kc_theta_state(&few, &state) == KC_OK && state.retained == 17);
+        kc_theta_free(&few), kc_text_free(&t);
+    }
+    kc_theta_free(&s);
+}
+
 /* The image of the value that an intersection has; none has a length of 0. */
 static uint64_t value_of(kc_intersection *i, unsigned char *to) {
     kc_compact value = {0};
@@ -243,6 +278,44 @@ static void operators(void) {
     status = CALL(difference, &r, &c, SEED, &d);
     WANT(MAKES(status, d));
     kc_theta_free(&s), kc_compact_free(&c), kc_compact_free(&r), kc_compact_free(&d), kc_intersection_free(&i);
+}
+
+/* Sketches that are merged together. */
+static void batches(void) {
+    kc_theta s = {0};
+    kc_compact c = {0}, r = {0};
+    kc_batch b = {0};
+    kc_union u = {0};
+    uint64_t length = 0, wanted = 0;
+    UNREFUSED(
+        WANT(kc_theta_new(&s, LG_K, SEED) == KC_OK && kc_theta_update_hashes(&s, of_numbers + 100, updates - 100) == KC_OK && kc_theta_compact(&s, &c) == KC_OK);
+        WANT(kc_union_new(&u, LG_K, SEED) == KC_OK && kc_union_add(&u, &s) == KC_OK && kc_union_add_image(&u, image, image_length) == KC_OK);
+        WANT(kc_union_image(&u, second, BYTES, &wanted) == KC_OK && kc_union_reset(&u) == KC_OK));
+    kc_status status = CALL(batch_new, &b, SEED);
+    WANT(MAKES(status, b));
+    if (b.object != NULL) {
+        /* a refused sketch isn't in the batch, and the same call may be repeated */
+        status = CALL(batch_add, &b, &s);
+        WANT(IS(status) && (status == KC_OK || kc_batch_add(&b, &s) == KC_OK));
+        status = CALL(batch_add_compact, &b, &c);
+        WANT(IS(status) && (status == KC_OK || kc_batch_add_compact(&b, &c) == KC_OK));
+        status = CALL(batch_add_image, &b, image, image_length);
+        WANT(IS(status) && (status == KC_OK || kc_batch_add_image(&b, image, image_length) == KC_OK));
+        status = CALL(union_add_batch, &u, &b);
+        WANT(IS(status));
+        if (status != KC_OK) {
+            /* memory ran out before the merge, and the union is empty as before; or in it, and the union has failed */
+            kc_status found = KC_OK;
+            kc_state state;
+            UNREFUSED(found = kc_union_result(&u, &r));
+            WANT(found == KC_FAILED || (found == KC_OK && kc_compact_state(&r, &state) == KC_OK && state.empty == 1 && kc_compact_free(&r) == KC_OK));
+            if (found == KC_FAILED) WANT(kc_union_add_batch(&u, &b) == KC_FAILED && kc_union_reset(&u) == KC_OK);
+            WANT(kc_union_add_batch(&u, &b) == KC_OK);
+        }
+        UNREFUSED(WANT(kc_union_image(&u, first, BYTES, &length) == KC_OK && is_image(length, second, wanted)));
+        kc_batch_free(&b);
+    }
+    kc_theta_free(&s), kc_compact_free(&c), kc_union_free(&u);
 }
 
 static kc_status add(kc_sums *m, int kind, uint64_t n) {
@@ -379,7 +452,7 @@ static void prepare(void) {
 }
 
 int main(int count, char **words) {
-    void (*const parts[])(void) = {updates_one_by_one, many_updates, copies_and_images, operators, sums, operators_on_sums};
+    void (*const parts[])(void) = {updates_one_by_one, many_updates, lines, copies_and_images, operators, batches, sums, operators_on_sums};
     long requests = 0;
     updates = count > 1 && strcmp(words[1], "short") == 0 ? 1500 : MOST;
     prepare();

@@ -21,6 +21,11 @@ kc_status kcp_theta_compact(kc_theta *sketch, kc_compact *out);
 kc_status kcp_theta_update_strings(kc_theta *sketch, const uint8_t *bytes, size_t bytes_count, const uint64_t *ends,
                                    size_t ends_count);
 
+kc_status kcp_text_new(kc_text *text, uint64_t seed);
+void kcp_text_free(kc_text *text);
+kc_status kcp_theta_update_text(kc_theta *sketch, kc_text *text, const uint8_t *piece, size_t count);
+kc_status kcp_theta_end_text(kc_theta *sketch, kc_text *text);
+
 kc_status kcp_compact_read(kc_compact *sketch, const uint8_t *image, size_t count, uint64_t seed);
 void kcp_compact_free(kc_compact *sketch);
 kc_status kcp_compact_clone(kc_compact *sketch, kc_compact *out);
@@ -35,6 +40,14 @@ kc_status kcp_union_add_image(kc_union *u, const uint8_t *image, size_t count);
 kc_status kcp_union_result(kc_union *u, kc_compact *out);
 kc_status kcp_union_image(kc_union *u, uint8_t *out, size_t out_room, uint64_t *length);
 kc_status kcp_union_reset(kc_union *u);
+
+kc_status kcp_batch_new(kc_batch *batch, uint64_t seed);
+void kcp_batch_free(kc_batch *batch);
+kc_status kcp_batch_add(kc_batch *batch, kc_theta *sketch);
+kc_status kcp_batch_add_compact(kc_batch *batch, kc_compact *sketch);
+kc_status kcp_batch_add_image(kc_batch *batch, const uint8_t *image, size_t count);
+kc_status kcp_batch_reset(kc_batch *batch);
+kc_status kcp_union_add_batch(kc_union *u, kc_batch *batch);
 
 kc_status kcp_intersection_new(kc_intersection *intersection, uint64_t seed);
 void kcp_intersection_free(kc_intersection *intersection);

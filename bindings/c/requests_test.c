@@ -211,6 +211,32 @@ static void intersections(void) {
     kc_intersection_free(&i), kc_sums_intersection_free(&j);
 }
 
+/* A text requests no memory but its object, and hashes that are known or at least theta none. A batch requests a copy of each
+ * sketch; a merge of its sketches requests their views, and what the union does. */
+static void texts_and_batches(void) {
+    kc_theta s = {0};
+    kc_text t = {0};
+    kc_batch b = {0};
+    kc_union u = {0};
+    requests = 0;
+    WANT(kc_text_new(&t, SEED) == KC_OK && kc_batch_new(&b, SEED) == KC_OK && requests == 2);
+    fill(&s, 5, SEED, 1, 1);
+    WANT(kc_theta_update_bytes(&s, "apple", 5) == KC_OK);
+    NOTHING(KC_OK, kc_theta_update_text(&s, &t, "apple\napple\nap", 14));
+    NOTHING(KC_OK, kc_theta_update_text(&s, &t, "ple", 3));
+    NOTHING(KC_OK, kc_theta_end_text(&s, &t));
+    NOTHING(KC_OK, kc_text_free(&t));
+    WANT(kc_union_new(&u, 5, SEED) == KC_OK);
+    NOTHING(KC_OK, kc_union_add_batch(&u, &b));
+    NOTHING(KC_INVALID_DATA, kc_batch_add_image(&b, "no image", 8));
+    requests = 0;
+    WANT(kc_batch_add(&b, &s) == KC_OK && requests == 2);
+    requests = 0;
+    WANT(kc_batch_add(&b, &s) == KC_OK && requests == 1);
+    NOTHING(KC_OK, kc_batch_reset(&b));
+    kc_theta_free(&s), kc_batch_free(&b), kc_union_free(&u);
+}
+
 static uint64_t next(uint64_t hash) { return (hash + UINT64_C(5700357409661599241)) & KC_MAX_THETA; }
 
 /* A rebuild requests one slot more than it keeps entries, and hashes to select from: one more than there are slots if these are
@@ -287,6 +313,7 @@ int main(void) {
     operators();
     growths();
     intersections();
+    texts_and_batches();
     rebuilds();
     images_of_sums();
     numbers();

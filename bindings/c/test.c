@@ -189,6 +189,96 @@ static void operators(void) {
     kc_theta_free(&a), kc_theta_free(&b), kc_theta_free(&other), kc_compact_free(&ca), kc_compact_free(&cb);
 }
 
+/* The image of a union's value. */
+static uint64_t value_of(kc_union *u, unsigned char *to) {
+    uint64_t length = 0;
+    WANT(kc_union_image(u, to, sizeof out, &length) == KC_OK);
+    return length;
+}
+
+/* A batch is merged as one sketch after another. */
+static void batches(void) {
+    kc_batch b = {0}, none = {0};
+    kc_theta s = {0}, empty = {0}, other = {0};
+    kc_compact c = {0};
+    kc_union u = {0}, one_by_one = {0};
+    static unsigned char image[1 << 17], together[1 << 17], apart[1 << 17];
+    uint64_t length = 0;
+    WANT(kc_batch_new(NULL, SEED) == KC_INVALID_ARGUMENT && kc_batch_new(&b, SEED) == KC_OK);
+    void *object = b.object;
+    WANT(kc_batch_new(&b, SEED) == KC_INVALID_ARGUMENT && b.object == object);
+    WANT(kc_union_new(&u, 12, SEED) == KC_OK && kc_union_new(&one_by_one, 12, SEED) == KC_OK);
+    /* no sketches */
+    WANT(kc_union_add_batch(&u, &b) == KC_OK && value_of(&u, together) == value_of(&one_by_one, apart));
+    /* 100 sketches of each kind, the first of which is empty */
+    for (uint64_t n = 0; n < 100; n++) {
+        WANT(kc_theta_new(&s, 12, SEED) == KC_OK);
+        numbers(&s, 90 * n, n == 0 ? 0 : 100);
+        WANT(kc_theta_compact(&s, &c) == KC_OK && kc_theta_image(&s, image, sizeof image, &length) == KC_OK);
+        if (n % 3 == 0) WANT(kc_batch_add(&b, &s) == KC_OK && kc_union_add(&one_by_one, &s) == KC_OK);
+        else if (n % 3 == 1) WANT(kc_batch_add_compact(&b, &c) == KC_OK && kc_union_add_compact(&one_by_one, &c) == KC_OK);
+        else WANT(kc_batch_add_image(&b, image, length) == KC_OK && kc_union_add_image(&one_by_one, image, length) == KC_OK);
+        /* what happens to a sketch later doesn't change the batch */
+        numbers(&s, 1000000, 10);
+        WANT(kc_theta_free(&s) == KC_OK && kc_compact_free(&c) == KC_OK);
+    }
+    WANT(kc_union_add_batch(&u, &b) == KC_OK);
+    uint64_t count = value_of(&u, together);
+    WANT(count == value_of(&one_by_one, apart) && count > 8 * 4096 && memcmp(together, apart, count) == 0);
+    /* the batch is as before */
+    WANT(kc_union_reset(&u) == KC_OK && kc_union_add_batch(&u, &b) == KC_OK && value_of(&u, apart) == count && memcmp(together, apart, count) == 0);
+    /* what is refused changes nothing: no image, and an image or a sketch of another seed */
+    WANT(kc_batch_add_image(&b, "no image", 8) == KC_INVALID_DATA && kc_batch_add_image(&b, NULL, 1) == KC_INVALID_ARGUMENT);
+    WANT(kc_theta_new(&other, 12, 123) == KC_OK && kc_theta_new(&empty, 12, 124) == KC_OK);
+    WANT(kc_theta_update_u64(&other, 1) == KC_OK && kc_theta_image(&other, image, sizeof image, &length) == KC_OK);
+    WANT(kc_batch_add_image(&b, image, length) == KC_INVALID_DATA);
+    WANT(kc_union_add_batch(&u, &b) == KC_OK && value_of(&u, apart) == count && memcmp(together, apart, count) == 0);
+    WANT(kc_batch_reset(&b) == KC_OK && kc_theta_new(&s, 12, SEED) == KC_OK && kc_theta_update_u64(&s, 7000000) == KC_OK);
+    WANT(kc_batch_add(&b, &empty) == KC_OK && kc_batch_add(&b, &s) == KC_OK && kc_union_reset(&u) == KC_OK && kc_union_add_batch(&u, &b) == KC_OK);
+    count = value_of(&u, together);
+    WANT(kc_batch_add(&b, &other) == KC_OK && kc_union_add_batch(&u, &b) == KC_INVALID_ARGUMENT && value_of(&u, apart) == count && memcmp(together, apart, count) == 0);
+    /* handles without an object */
+    WANT(kc_batch_add(&none, &s) == KC_INVALID_ARGUMENT && kc_batch_add_compact(&b, &c) == KC_INVALID_ARGUMENT && kc_batch_reset(&none) == KC_INVALID_ARGUMENT);
+    WANT(kc_batch_add_image(&none, image, length) == KC_INVALID_ARGUMENT && kc_union_add_batch(&u, &none) == KC_INVALID_ARGUMENT);
+    WANT(kc_union_add_batch(NULL, &b) == KC_INVALID_ARGUMENT && kc_union_add_batch(&u, NULL) == KC_INVALID_ARGUMENT);
+    WANT(kc_batch_free(&b) == KC_OK && kc_batch_free(&b) == KC_OK && b.object == NULL && kc_batch_free(NULL) == KC_INVALID_ARGUMENT);
+    kc_theta_free(&s), kc_theta_free(&empty), kc_theta_free(&other), kc_union_free(&u), kc_union_free(&one_by_one);
+}
+
+/* The lines of a text, cut into pieces of every length, are those of `kc_theta_update_bytes`. */
+static void texts_in_pieces(void) {
+    static const char text[] = "ann\nbob\n\nann\r\na line that is longer than the thirty-two bytes which are hashed at once\nbob\n\xff\0\nlast";
+    static const struct { const char *line; size_t count; } lines[] = {
+        {"ann", 3}, {"bob", 3}, {"", 0}, {"ann\r", 4}, {"a line that is longer than the thirty-two bytes which are hashed at once", 72}, {"\xff\0", 2}, {"last", 4}};
+    kc_theta s = {0}, wanted = {0}, other = {0};
+    kc_text t = {0}, none = {0};
+    uint64_t length = 0, wanted_length = 0;
+    WANT(kc_theta_new(&wanted, 12, SEED) == KC_OK && kc_text_new(&t, SEED) == KC_OK && kc_text_new(&t, SEED) == KC_INVALID_ARGUMENT);
+    for (size_t n = 0; n < sizeof lines / sizeof *lines; n++) WANT(kc_theta_update_bytes(&wanted, lines[n].line, lines[n].count) == KC_OK);
+    WANT(kc_theta_image(&wanted, a_image, sizeof a_image, &wanted_length) == KC_OK && wanted_length > 8 * 7);
+    for (size_t size = 1; size <= sizeof text; size++) {
+        WANT(kc_theta_new(&s, 12, SEED) == KC_OK);
+        for (size_t at = 0; at < sizeof text - 1; at += size)
+            WANT(kc_theta_update_text(&s, &t, text + at, at + size < sizeof text - 1 ? size : sizeof text - 1 - at) == KC_OK);
+        WANT(kc_theta_update_text(&s, &t, NULL, 0) == KC_OK && kc_theta_end_text(&s, &t) == KC_OK);
+        WANT(kc_theta_image(&s, out, sizeof out, &length) == KC_OK && length == wanted_length && memcmp(out, a_image, length) == 0);
+        kc_theta_free(&s);
+    }
+    /* an ended text of no bytes, or of whole lines, has no more line */
+    kc_state st;
+    WANT(kc_theta_new(&s, 12, SEED) == KC_OK && kc_theta_end_text(&s, &t) == KC_OK && kc_theta_state(&s, &st) == KC_OK && st.empty == 1);
+    WANT(kc_theta_update_text(&s, &t, "ann\n", 4) == KC_OK && kc_theta_end_text(&s, &t) == KC_OK && kc_theta_state(&s, &st) == KC_OK && st.retained == 1);
+    /* another seed, handles without an object, null */
+    WANT(kc_theta_new(&other, 12, 123) == KC_OK && kc_theta_update_text(&other, &t, "bob", 3) == KC_INVALID_ARGUMENT && kc_theta_end_text(&other, &t) == KC_INVALID_ARGUMENT);
+    WANT(kc_theta_end_text(&s, &t) == KC_OK && kc_theta_state(&s, &st) == KC_OK && st.retained == 1);
+    WANT(kc_theta_update_text(&s, &none, "bob", 3) == KC_INVALID_ARGUMENT && kc_theta_end_text(&s, &none) == KC_INVALID_ARGUMENT);
+    WANT(kc_theta_free(&s) == KC_OK && kc_theta_update_text(&s, &t, "bob", 3) == KC_INVALID_ARGUMENT && kc_theta_end_text(&s, &t) == KC_INVALID_ARGUMENT);
+    WANT(kc_theta_update_text(NULL, &t, "bob", 3) == KC_INVALID_ARGUMENT && kc_theta_update_text(&other, NULL, "bob", 3) == KC_INVALID_ARGUMENT);
+    WANT(kc_theta_update_text(&other, &t, NULL, 3) == KC_INVALID_ARGUMENT && kc_theta_end_text(NULL, &t) == KC_INVALID_ARGUMENT && kc_theta_end_text(&other, NULL) == KC_INVALID_ARGUMENT);
+    WANT(kc_text_free(&t) == KC_OK && kc_text_free(&t) == KC_OK && t.object == NULL && kc_text_free(NULL) == KC_INVALID_ARGUMENT && kc_text_new(NULL, SEED) == KC_INVALID_ARGUMENT);
+    kc_theta_free(&other), kc_theta_free(&wanted);
+}
+
 static void sums(void) {
     kc_sums s = {0};
     kc_state st;
@@ -495,6 +585,8 @@ int main(void) {
     settings();
     compacts();
     operators();
+    batches();
+    texts_in_pieces();
     sums();
     compact_sums();
     sums_unions();

@@ -62,8 +62,7 @@ def theta_union(sketches: Iterable[Any], lg_k: int | None = None) -> CompactThet
     if lg_k is None:
         lg_k = max((it.lg_k for it in found), default=12)
     union = ThetaUnion(least_lg_k(sum(map(len, found)), lg_k) if keeps_all else lg_k, found[0].seed if found else DEFAULT_SEED)
-    for it in found:
-        union.update(it)
+    union.update(found)
     result = union.result()
     if keeps_all:
         warn_of_drops(result.theta, found, 3)

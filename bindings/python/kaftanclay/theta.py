@@ -1,8 +1,10 @@
 """Theta sketches: those that take updates, compact ones, unions and intersections."""
 from __future__ import annotations
 
+import os
 from array import array
-from typing import Any, cast
+from collections.abc import Iterator
+from typing import Any, Protocol, cast
 
 from . import _native
 from ._keys import Key
@@ -12,6 +14,27 @@ from ._sketch import CompactSketch, Merge, Sketch, UpdatableSketch, entries_of, 
 __all__ = ["CompactThetaSketch", "Key", "ThetaIntersection", "ThetaSketch", "ThetaUnion"]
 
 _EMPTY = bytes.fromhex("010303 00001e 0000")
+
+# The most bytes of one read of a file.
+_BLOCK = 1 << 18
+
+
+class BinaryFile(Protocol):
+    """A file that is open in binary mode."""
+
+    def readinto(self, buffer: Any, /) -> int | None:
+        """Reads bytes into a buffer, and returns how many; 0 at the end."""
+
+
+def pieces_of(file: BinaryFile) -> Iterator[memoryview]:
+    """The bytes that a file has left, in pieces. Each stays as it is until the next one is read."""
+    if not hasattr(file, "readinto"):
+        raise TypeError(f"lines are read from a path or a file that is open in binary mode, not from {type(file).__name__}")
+    block = memoryview(bytearray(_BLOCK))
+    while (count := file.readinto(block)) != 0:
+        if count is None:
+            raise BlockingIOError("the file has no bytes yet; open it so that reads wait")
+        yield block[:count]
 
 
 class ThetaValue(Sketch):
@@ -107,6 +130,20 @@ class ThetaSketch(UpdatableSketch, ThetaValue, _native.Theta):
         """Its value as a compact sketch, untrimmed. Raises OutOfMemoryError."""
         return CompactThetaSketch._of_image(self.to_bytes(), self.seed, self.lg_k, self._guesses_lg_k)
 
+    def update_lines(self, source: str | bytes | os.PathLike[Any] | BinaryFile) -> None:
+        """Updates it with each line of a file: a path, or a file that is open in binary mode, from where it is.
+
+        A line is the bytes before an LF, without it, and what is behind the last one if that isn't empty: the lines of the
+        program `distinct`, and the keys that `update` makes of these bytes. The file is read in pieces, without an object for
+        each line, and other threads may run meanwhile. Raises TypeError for anything else, what opening or reading the file
+        raises, and OutOfMemoryError. Then some first lines may have been inserted, and inserting them again changes nothing.
+        """
+        if isinstance(source, (str, bytes, os.PathLike)):
+            with open(source, "rb", buffering=0) as file:
+                self._update_pieces(pieces_of(file))
+        else:
+            self._update_pieces(pieces_of(source))
+
     def _fill(self, value: CompactSketch) -> None:
         self._insert(entries_of(value.to_bytes()), value.is_empty)
 
@@ -115,6 +152,7 @@ class ThetaUnion(Merge, _native.Union):
     """A union of any number of theta sketches, in any order.
 
     It retains at most 2^lg_k hashes (lg_k from 4 to 26), the least of all that its sketches retain below their least theta.
+    Pass `update` a list of sketches or images to merge them together, which takes a fraction of the time of one by one.
     If no lg_k is passed it is 12, and `update` warns (SketchWarning) of a sketch that retains more, unless that has an `lg_k` of 12
     itself. After an OutOfMemoryError of `update` it may have failed: it then raises FailedError until it is reset.
 

@@ -77,12 +77,63 @@ static int add_image(Object *o, const char *image, Py_ssize_t count) {
     return -1;
 }
 
-/* An image, or null with an error. The reference is the function's own now. */
-static int add_bytes(Object *o, PyObject *bytes) {
+/* Sketches that wait to be merged into a union of theta sketches together. */
+enum { SKETCHES_AT_ONCE = 4096, BYTES_AT_ONCE = 1 << 23 };
+typedef struct {
+    kc_batch batch;
+    size_t sketches, bytes; /* how many wait, and about how many bytes they have */
+} Waiting;
+
+/* Merges the sketches that wait. Whatever comes of it, none waits afterwards. */
+static int merge_waiting(Object *o, Waiting *waiting) {
+    kc_status status;
+    if (waiting->sketches == 0) return 0;
+    waiting->sketches = waiting->bytes = 0;
+    if (begin(o)) return -1;
+    WITHOUT_LOCK(status, kc_union_add_batch(&o->handle.of_union, &waiting->batch));
+    end(o);
+    kc_batch_reset(&waiting->batch);
+    if (status == KC_OK) return PyErr_CheckSignals();
+    refuse(status, NULL);
+    return -1;
+}
+
+/* One more sketch waits, after `status`; if there are many, they are merged. */
+static int wait_with(Object *o, Waiting *waiting, kc_status status, size_t bytes) {
+    if (status != KC_OK) {
+        refuse(status, NULL);
+        return -1;
+    }
+    waiting->sketches++;
+    waiting->bytes += bytes;
+    return waiting->sketches == SKETCHES_AT_ONCE || waiting->bytes >= BYTES_AT_ONCE ? merge_waiting(o, waiting) : 0;
+}
+
+static int put_image(Object *o, Waiting *waiting, const char *image, Py_ssize_t count) {
+    kc_status status;
+    if (count < 8 * MANY) status = kc_batch_add_image(&waiting->batch, image, (size_t)count);
+    else WITHOUT_LOCK(status, kc_batch_add_image(&waiting->batch, image, (size_t)count));
+    return wait_with(o, waiting, status, (size_t)count);
+}
+
+/* A copy of a sketch that takes updates, which no other thread changes meanwhile. */
+static int put_sketch(Object *o, Waiting *waiting, Object *sketch) {
+    kc_status status;
+    kc_state state = {0, 0, 0};
+    if (begin(sketch)) return -1;
+    WITHOUT_LOCK(status, kc_batch_add(&waiting->batch, &sketch->handle.theta));
+    kc_theta_state(&sketch->handle.theta, &state);
+    end(sketch);
+    return wait_with(o, waiting, status, 8 * (size_t)state.retained);
+}
+
+/* An image, or null with an error. The reference is the function's own now. It is merged, or waits. */
+static int add_bytes(Object *o, Waiting *waiting, PyObject *bytes) {
     char *image;
     Py_ssize_t count;
     if (bytes == NULL) return -1;
-    int status = PyBytes_AsStringAndSize(bytes, &image, &count) ? -1 : add_image(o, image, count);
+    int status = PyBytes_AsStringAndSize(bytes, &image, &count);
+    if (status == 0) status = waiting != NULL ? put_image(o, waiting, image, count) : add_image(o, image, count);
     Py_DECREF(bytes);
     return status;
 }
@@ -150,34 +201,93 @@ static int warn_of_image(Object *o, PyObject *bytes) {
 }
 
 /* Adds the image of bytes, whose reference is the function's own now. */
-static int add_image_of(Object *o, PyObject *bytes) {
-    if (bytes == NULL || warn_of_image(o, bytes) == 0) return add_bytes(o, bytes);
+static int add_image_of(Object *o, Waiting *waiting, PyObject *bytes) {
+    if (bytes == NULL || warn_of_image(o, bytes) == 0) return add_bytes(o, waiting, bytes);
     Py_DECREF(bytes);
     return -1;
 }
 
-static int add_any(Object *o, PyObject *sketch) {
+static bool is_image(PyObject *it) { return PyBytes_Check(it) || PyByteArray_Check(it) || PyMemoryView_Check(it); }
+
+static int refuse_image(PyObject *it) {
+    PyObject *name = PyType_GetName(Py_TYPE(it));
+    if (name != NULL) PyErr_Format(PyExc_TypeError, "an image is bytes, not %U", name);
+    Py_XDECREF(name);
+    return -1;
+}
+
+/* Merges a sketch or an image; or it waits, if `waiting` isn't null. */
+static int add_any(Object *o, Waiting *waiting, PyObject *sketch) {
     Object *other = (Object *)sketch;
     bool is_updatable = PyObject_TypeCheck(sketch, o->kind->of_sums ? sums_type : theta_type);
     if (is_updatable || PyObject_TypeCheck(sketch, o->kind->of_sums ? compact_sums_type : compact_theta_type)) {
         if (require_made(other) || require_seed(o, other) || warn_of_sketch(o, other)) return -1;
-        return is_updatable ? add_sketch(o, other) : add_bytes(o, Py_NewRef(other->image));
+        if (!is_updatable) return add_bytes(o, waiting, Py_NewRef(other->image));
+        return waiting != NULL ? put_sketch(o, waiting, other) : add_sketch(o, other);
     }
-    if (PyBytes_Check(sketch)) return add_image_of(o, Py_NewRef(sketch));
-    if (!PyByteArray_Check(sketch) && !PyMemoryView_Check(sketch)) {
-        PyObject *name = PyType_GetName(Py_TYPE(sketch));
-        if (name != NULL) PyErr_Format(PyExc_TypeError, "an image is bytes, not %U", name);
-        Py_XDECREF(name);
+    if (!is_image(sketch)) return refuse_image(sketch);
+    return add_image_of(o, waiting, PyBytes_Check(sketch) ? Py_NewRef(sketch) : PyBytes_FromObject(sketch));
+}
+
+/* Merges those that still wait, even after an error: what comes before a refused sketch is merged. A refusal of the merge takes the
+ * place of that error. */
+static int merge_rest(Object *o, Waiting *waiting, int status) {
+    Error error = put_aside();
+    if (merge_waiting(o, waiting) == 0) {
+        put_back(error);
+        return status;
+    }
+    Py_XDECREF(error.type);
+    Py_XDECREF(error.value);
+    Py_XDECREF(error.traceback);
+    return -1;
+}
+
+/* Adds the sketches and images of an iterator, each in turn; to a union of theta sketches, many together. */
+static int add_each(Object *o, Waiting *waiting, PyObject *iterator) {
+    PyObject *sketch;
+    int status = 0;
+    while (status == 0 && (sketch = PyIter_Next(iterator)) != NULL) {
+        status = add_any(o, waiting, sketch);
+        Py_DECREF(sketch);
+    }
+    return PyErr_Occurred() ? -1 : status;
+}
+
+static int add_many(Object *o, PyObject *iterator) {
+    Waiting waiting = {{0}, 0, 0};
+    if (o->kind != &union_kind) return add_each(o, NULL, iterator);
+    kc_status made = kc_batch_new(&waiting.batch, o->settings.seed);
+    if (made != KC_OK) {
+        refuse(made, NULL);
         return -1;
     }
-    return add_image_of(o, PyBytes_FromObject(sketch));
+    int status = merge_rest(o, &waiting, add_each(o, &waiting, iterator));
+    kc_batch_free(&waiting.batch);
+    return status;
+}
+
+/* Adds a sketch or an image, or those of an iterable. */
+static int add_all(Object *o, PyObject *given) {
+    if (is_image(given) || PyObject_TypeCheck(given, sketch_type)) return add_any(o, NULL, given);
+    PyObject *iterator = PyUnicode_Check(given) ? NULL : PyObject_GetIter(given);
+    if (iterator == NULL) {
+        if (PyErr_Occurred() && !PyErr_ExceptionMatches(PyExc_TypeError)) return -1;
+        PyErr_Clear();
+        return refuse_image(given);
+    }
+    int status = add_many(o, iterator);
+    Error error = put_aside();
+    Py_DECREF(iterator);
+    put_back(error);
+    return status;
 }
 
 static PyObject *merge_update(PyObject *self, PyObject *const *given, Py_ssize_t count, PyObject *by_name) {
     static const char *const names[] = {"sketch", NULL};
     PyObject *values[1] = {0};
     if (arguments("update", names, 1, 1, given, count, by_name, values) || require_made((Object *)self)) return NULL;
-    return add_any((Object *)self, values[0]) ? NULL : Py_NewRef(Py_None);
+    return add_all((Object *)self, values[0]) ? NULL : Py_NewRef(Py_None);
 }
 
 /* The image and the state of its value. */
@@ -205,18 +315,20 @@ static PyObject *union_reset(PyObject *self, PyObject *unused) {
 #define METHODS_OF_MERGE(more) \
     METHOD("update", merge_update, \
            "update($self, sketch)\n--\n\n" \
-           "Merges a sketch, or the bytes of an image; neither changes.\n\n" \
+           "Merges a sketch, or the bytes of an image; or all of a list or another iterable of these. None of them changes.\n\n" \
            "Raises InvalidArgumentError for a sketch of another seed, InvalidDataError for bytes that begin with no image of\n" \
-           "this seed, TypeError for anything else, and OutOfMemoryError." more), \
+           "this seed, TypeError for anything else, and OutOfMemoryError. If one of several is refused, exactly those before it\n" \
+           "have been merged." more), \
     {"_result", merge_result, METH_NOARGS, "The image and the state of its value."}
 #define SUMS_TEXT " PolicyError if the sum of a key would be 2^64 or more."
+#define MANY_TEXT " Many sketches together take a fraction of the time of one `update` each."
 #define UNION_TEXT " A union that has failed raises FailedError.\n\n" \
     "A union that was made without lg_k warns (SketchWarning), once, if a sketch of a greater or an unknown lg_k retains more\n" \
     "hashes than it keeps."
 #define RESET \
     {"reset", union_reset, METH_NOARGS, "reset($self)\n--\n\nMakes it empty again, as when it was new, and ends a failure."}
 
-static PyMethodDef union_methods[] = {METHODS_OF_MERGE(UNION_TEXT), RESET, {0}};
+static PyMethodDef union_methods[] = {METHODS_OF_MERGE(MANY_TEXT UNION_TEXT), RESET, {0}};
 static PyMethodDef intersection_methods[] = {METHODS_OF_MERGE(""), {0}};
 static PyMethodDef sums_union_methods[] = {METHODS_OF_MERGE(" Raises" SUMS_TEXT UNION_TEXT), RESET, {0}};
 static PyMethodDef sums_intersection_methods[] = {METHODS_OF_MERGE(" Raises" SUMS_TEXT), {0}};

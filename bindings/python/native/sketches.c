@@ -395,6 +395,47 @@ static PyObject *total_of_sums(PyObject *self, PyObject *unused) {
     {"_settings", sketch_settings, METH_NOARGS, "Its lg_k, seed, resize factor and starting theta."}, \
     {"_copy", sketch_copy, METH_O, "Becomes a copy of another sketch."}
 
+/* Updates it with the lines that end in a piece of a text, an object with a buffer of bytes. */
+static int add_piece(Object *o, kc_text *text, PyObject *piece) {
+    Py_buffer view;
+    kc_status status = KC_OK;
+    if (PyObject_GetBuffer(piece, &view, PyBUF_SIMPLE)) return -1;
+    int began = begin(o);
+    if (began == 0) {
+        WITHOUT_LOCK(status, kc_theta_update_text(&o->handle.theta, text, view.buf, (size_t)view.len));
+        end(o);
+    }
+    PyBuffer_Release(&view);
+    return began == 0 && status != KC_OK ? refuse_call(o, status) : began;
+}
+
+static int add_pieces(Object *o, kc_text *text, PyObject *iterator) {
+    PyObject *piece;
+    int status = 0;
+    while (status == 0 && (piece = PyIter_Next(iterator)) != NULL) {
+        status = add_piece(o, text, piece);
+        Py_DECREF(piece);
+    }
+    if (status != 0 || PyErr_Occurred() || ready(o)) return -1;
+    kc_status ended = kc_theta_end_text(&o->handle.theta, text);
+    return ended == KC_OK ? PyErr_CheckSignals() : refuse_call(o, ended);
+}
+
+static PyObject *theta_update_pieces(PyObject *self, PyObject *pieces) {
+    Object *o = (Object *)self;
+    kc_text text = {0};
+    if (require_made(o)) return NULL;
+    PyObject *iterator = PyObject_GetIter(pieces);
+    if (iterator == NULL) return NULL;
+    kc_status made = kc_text_new(&text, o->settings.seed);
+    int status = made == KC_OK ? add_pieces(o, &text, iterator) : refuse_call(o, made);
+    kc_text_free(&text);
+    Error error = put_aside();
+    Py_DECREF(iterator);
+    put_back(error);
+    return status ? NULL : Py_NewRef(Py_None);
+}
+
 static PyMethodDef theta_methods[] = {
     METHOD("update", update_theta,
            "update($self, key)\n--\n\n"
@@ -415,6 +456,7 @@ static PyMethodDef theta_methods[] = {
            "structures are broken; and what `update` raises. Keys before the refused one may then have been inserted, and\n"
            "inserting them again changes nothing."),
     METHODS_OF_UPDATABLE,
+    {"_update_pieces", theta_update_pieces, METH_O, "Updates it with the lines of a text, whose pieces an iterable has."},
     {"_insert", insert_hashes, METH_VARARGS, "Inserts hashes into a new sketch, and whether it is empty."},
     {0}};
 

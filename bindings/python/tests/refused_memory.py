@@ -4,6 +4,7 @@ test_memory.py runs it, with refusing.c loaded and Python's objects allocated by
 """
 import copy
 import ctypes
+import io
 import os
 import pickle
 import signal
@@ -56,7 +57,7 @@ def union(kind, part):
 OTHER, OTHER_SUMS = theta(NUMBERS[1000:]).compact(), sums(NUMBERS[1000:]).compact()
 IMAGE, IMAGE_OF_SUMS = OTHER.to_bytes(), OTHER_SUMS.to_bytes()
 PICKLE = pickle.dumps(theta())
-
+TEXT = "\n".join(KEYS).encode()
 
 
 class Ready:
@@ -88,6 +89,7 @@ CASES = {
     "update_many column": (lambda: theta([]), lambda it: it.update_many(COLUMN), True),
     "update_many column with missing rows": (lambda: theta([]), lambda it: it.update_many(HOLES), True),
     "update_many dictionary": (lambda: theta([]), lambda it: it.update_many(WORDS), True),
+    "update_lines": (lambda: theta([]), lambda it: it.update_lines(io.BytesIO(TEXT)), True),
     "groups": (lambda: theta([]), lambda it: _native.add_groups((it, theta([])), GROUPS, KEYS, None, True), True),
     "estimate": (theta, lambda it: it.estimate, False),
     "bounds": (theta, lambda it: it.bounds(), False),
@@ -107,6 +109,7 @@ CASES = {
     "sub": (theta, lambda it: it - OTHER, False),
     "union update": (lambda: union(ThetaUnion, theta()), lambda it: it.update(OTHER), True),
     "union update sketch": (lambda: union(ThetaUnion, theta()), lambda it: it.update(SKETCH), True),
+    "union update list": (lambda: union(ThetaUnion, theta()), lambda it: it.update([SKETCH, OTHER, IMAGE, bytearray(IMAGE)]), True),
     "union result": (lambda: union(ThetaUnion, theta()), lambda it: it.result(), False),
     "union reset": (lambda: ThetaUnion(10), lambda it: it.reset(), False),
     "meet update": (lambda: union(lambda lg_k: ThetaIntersection(), theta()), lambda it: it.update(IMAGE), False),
@@ -124,6 +127,7 @@ CASES = {
     "sums and": (sums, lambda it: it & OTHER_SUMS, False),
     "sums sub": (sums, lambda it: it - OTHER_SUMS, False),
     "sums union": (lambda: union(TupleSumsUnion, sums()), lambda it: it.update(OTHER_SUMS), True),
+    "sums union list": (lambda: union(TupleSumsUnion, sums()), lambda it: it.update([OTHER_SUMS, IMAGE_OF_SUMS]), True),
     "sums meet": (lambda: union(lambda lg_k: TupleSumsIntersection(), sums()), lambda it: (it.update(OTHER_SUMS), it.result()), True),
 }
 SKETCH = theta(NUMBERS[500:])

@@ -49,3 +49,11 @@ abbrev pub FillsFromTwo : {S T : Type 0} → (AreAccepted : S → S → Type 0) 
 FillsFromTwo AreAccepted IsMade IsRefused None second old status new = (status ≡ 1) × (new ≡ old)
 FillsFromTwo AreAccepted IsMade IsRefused (Some a) None old status new = (status ≡ 1) × (new ≡ old)
 FillsFromTwo AreAccepted IsMade IsRefused (Some a) (Some b) old status new = Fills (λ made. AreAccepted a b × IsMade a b made) (IsRefused a b) old status new
+
+-- a call that may change two objects: without either it is refused with 1, and neither changes
+abbrev pub OnBoth : {S T : Type 0} → (Does : S → T → ℕ → S → T → Type 0) → (old_first : Option S) → (old : Option T) → (status : ℕ) → (new_first : Option S) → (new : Option T) → Type 0
+OnBoth Does None old status new_first new = (status ≡ 1) × (new_first ≡ None) × (new ≡ old)
+OnBoth Does (Some a) None status new_first new = (status ≡ 1) × (new_first ≡ Some a) × (new ≡ None)
+OnBoth Does (Some a) (Some b) status None new = ⊥
+OnBoth Does (Some a) (Some b) status (Some c) None = ⊥
+OnBoth Does (Some a) (Some b) status (Some c) (Some d) = Does a b status c d

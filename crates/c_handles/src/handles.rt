@@ -2,6 +2,9 @@
 ghost use Rattle.std.specs.Prelude.{Option};
 ghost use Rattle.std.specs.Coded.{coded_option};
 ghost use Rattle.c_handles.specs.Handle.{handle_owns};
+ghost use Rattle.line_sketches.specs.contracts.pieces.OpenText as open_text;
+ghost use Rattle.line_sketches.specs.declared.pieces.OpenText.{OpenText};
+ghost use Rattle.sketch_objects.specs.contracts.batch.SeededBatch as seeded_batch;
 ghost use Rattle.sketch_objects.specs.contracts.compact.CompactSketch as compact_sketch;
 ghost use Rattle.sketch_objects.specs.contracts.compact_sums.CompactSums as compact_sums;
 ghost use Rattle.sketch_objects.specs.contracts.intersection.SeededIntersection as seeded_intersection;
@@ -10,6 +13,7 @@ ghost use Rattle.sketch_objects.specs.contracts.sums_intersection.SeededSumsInte
 ghost use Rattle.sketch_objects.specs.contracts.sums_union.SeededSumsUnion as seeded_sums_union;
 ghost use Rattle.sketch_objects.specs.contracts.theta.SeededSketch as seeded_sketch;
 ghost use Rattle.sketch_objects.specs.contracts.union.SeededUnion as seeded_union;
+ghost use Rattle.sketch_objects.specs.declared.batch.SeededBatch.{SeededBatch};
 ghost use Rattle.sketch_objects.specs.declared.compact.CompactSketch.{CompactSketch};
 ghost use Rattle.sketch_objects.specs.declared.compact_sums.CompactSums.{CompactSums};
 ghost use Rattle.sketch_objects.specs.declared.intersection.SeededIntersection.{SeededIntersection};
@@ -42,6 +46,28 @@ pub struct CompactHandle {
 
 impl Model for CompactHandle {
     ghost also_owns = { λ h. handle_owns compact_sketch.the_row h.at h.value };
+}
+
+/// A handle of C: a text whose lines update a sketch, or none.
+#[repr(C)]
+pub struct TextHandle {
+    at: *mut Opaque,
+    pub ghost value: { Option OpenText } by { coded_option open_text.the_row.coded },
+}
+
+impl Model for TextHandle {
+    ghost also_owns = { λ h. handle_owns open_text.the_row h.at h.value };
+}
+
+/// A handle of C: a batch of theta sketches, or none.
+#[repr(C)]
+pub struct BatchHandle {
+    at: *mut Opaque,
+    pub ghost value: { Option SeededBatch } by { coded_option seeded_batch.the_row.coded },
+}
+
+impl Model for BatchHandle {
+    ghost also_owns = { λ h. handle_owns seeded_batch.the_row h.at h.value };
 }
 
 /// A handle of C: a union of theta sketches, or none.

@@ -3,14 +3,18 @@
 //! A handle and its `Owned` are the same bytes and own the same, so a `&mut` to the one is a `&mut` to the other.
 ghost use Rattle.std.specs.Prelude.{◌≡◌};
 ghost use Rattle.std.specs.Borrow.{sem, Lends};
+ghost use Rattle.line_sketches.specs.contracts.pieces.OpenText as text;
+ghost use Rattle.sketch_objects.specs.contracts.batch.SeededBatch as batch;
 ghost use Rattle.sketch_objects.specs.contracts.compact.CompactSketch as compact;
 ghost use Rattle.sketch_objects.specs.contracts.compact_sums.CompactSums as compact_sums;
+ghost use Rattle.c_handles.specs.contracts.handles.BatchHandle as batch_handle;
 ghost use Rattle.c_handles.specs.contracts.handles.CompactHandle as compact_handle;
 ghost use Rattle.c_handles.specs.contracts.handles.CompactSumsHandle as compact_sums_handle;
 ghost use Rattle.c_handles.specs.contracts.handles.IntersectionHandle as intersection_handle;
 ghost use Rattle.c_handles.specs.contracts.handles.SumsHandle as sums_handle;
 ghost use Rattle.c_handles.specs.contracts.handles.SumsIntersectionHandle as sums_intersection_handle;
 ghost use Rattle.c_handles.specs.contracts.handles.SumsUnionHandle as sums_union_handle;
+ghost use Rattle.c_handles.specs.contracts.handles.TextHandle as text_handle;
 ghost use Rattle.c_handles.specs.contracts.handles.ThetaHandle as theta_handle;
 ghost use Rattle.c_handles.specs.contracts.handles.UnionHandle as union_handle;
 ghost use Rattle.sketch_objects.specs.contracts.intersection.SeededIntersection as intersection;
@@ -22,10 +26,12 @@ ghost use Rattle.sketch_objects.specs.contracts.theta.SeededSketch as theta;
 ghost use Rattle.sketch_objects.specs.contracts.union.SeededUnion as union;
 
 use crate::handles::{
-    CompactHandle, CompactSumsHandle, IntersectionHandle, SumsHandle, SumsIntersectionHandle,
-    SumsUnionHandle, ThetaHandle, UnionHandle,
+    BatchHandle, CompactHandle, CompactSumsHandle, IntersectionHandle, SumsHandle,
+    SumsIntersectionHandle, SumsUnionHandle, TextHandle, ThetaHandle, UnionHandle,
 };
 use crate::owned::Owned;
+use line_sketches::OpenText;
+use sketch_objects::batch::SeededBatch;
 use sketch_objects::compact::CompactSketch;
 use sketch_objects::compact_sums::CompactSums;
 use sketch_objects::intersection::SeededIntersection;
@@ -57,6 +63,32 @@ impl CompactHandle {
         ensures same { result.now ≡ record { at = self.old.at; value = self.old.value } }
     {
         let at = &raw mut *self as *mut Owned<CompactSketch>;
+        unsafe { &mut *at }
+    }
+}
+
+impl TextHandle {
+    /// The pointer of the handle.
+    #[inline(always)]
+    pub fn owned(&mut self) -> &mut Owned<OpenText>
+        ensures* writes_back { sem 𝓛 (Lends text_handle.the_row (owned.the_row text.the_row)
+            self.entry result (λ w. record { at = w.at; value = w.value })) }
+        ensures same { result.now ≡ record { at = self.old.at; value = self.old.value } }
+    {
+        let at = &raw mut *self as *mut Owned<OpenText>;
+        unsafe { &mut *at }
+    }
+}
+
+impl BatchHandle {
+    /// The pointer of the handle.
+    #[inline(always)]
+    pub fn owned(&mut self) -> &mut Owned<SeededBatch>
+        ensures* writes_back { sem 𝓛 (Lends batch_handle.the_row (owned.the_row batch.the_row)
+            self.entry result (λ w. record { at = w.at; value = w.value })) }
+        ensures same { result.now ≡ record { at = self.old.at; value = self.old.value } }
+    {
+        let at = &raw mut *self as *mut Owned<SeededBatch>;
         unsafe { &mut *at }
     }
 }

@@ -1,5 +1,7 @@
 //! Objects on more than one thread.
 
+use line_sketches::OpenText;
+use sketch_objects::batch::SeededBatch;
 use sketch_objects::compact::CompactSketch;
 use sketch_objects::compact_sums::CompactSums;
 use sketch_objects::intersection::SeededIntersection;
@@ -15,6 +17,8 @@ fn is_send<T: Send>() {}
 fn objects_are_send() {
     is_send::<SeededSketch>();
     is_send::<CompactSketch>();
+    is_send::<OpenText>();
+    is_send::<SeededBatch>();
     is_send::<SeededUnion>();
     is_send::<SeededIntersection>();
     is_send::<SeededSums>();

@@ -1,16 +1,18 @@
 -- Pieces of a text, inserted one after another.
-use Rattle.std.proofs.Common.{◌≡◌, ℕ, suc, ◌^◌, Bool, true, false, List, [], ◌∷◌, ◌++◌, length, map, refl, sym, ap, ◌∙◌, arith, append_assoc, append-nil}
+use Rattle.std.proofs.Common.{◌≡◌, ℕ, suc, ◌^◌, Bool, true, false, List, [], ◌∷◌, ◌++◌, length, map, take, drop, refl, sym, ap, ◌∙◌, arith, append_assoc, append-nil}
 use Rattle.std.specs.Prelude.{◌&&◌, ◌==◌}
 use Rattle.std.proofs.lemmas.Bool.Decides.{nat_tests}
+use Rattle.std.proofs.lemmas.List.{take-map, take-append-drop}
+use Rattle.std.proofs.Math.Seq.{take-append_seam}
 use Rattle.core_laws.specs.Entries.{hash_key, hash_step}
 use Rattle.core_table.specs.HashTable.{MapTable, after_hashes}
 use Rattle.core_laws.specs.Insertion.{after_upsert}
-use Rattle.core_state.specs.Updatable.{Updatable}
+use Rattle.core_state.specs.Updatable.{Updatable, StopsUpdates}
 use Rattle.lines.specs.Lines.{lines_of, lines_after, Lacks}
 use Rattle.lines.specs.Keys.{line_hash}
 use Rattle.line_sketches.specs.Keys.{LineState, line_state, with_line, with_lines}
 use Rattle.lines.specs.Hashed.{AreHashesOfLines}
-use Rattle.line_sketches.specs.Taking.{Takes, Leaves}
+use Rattle.line_sketches.specs.Taking.{Takes, Leaves, InsertsFirst}
 use Rattle.lines.proofs.Texts.{lines_after-line, lines_after-lacking, lines_whole}
 use Rattle.lines.specs.declared.key.Hashing.{Hashing}
 
@@ -51,9 +53,56 @@ module _ (hashing : Hashing) where
   -- after more lines less is left
   pub leaves_lines : (a : LineState) (s t : Updatable ℕ) (text rest others hashes : List ℕ) → Leaves hashing a text (line_state s) rest → AreHashesOfLines hashing rest hashes others →
       t.map ≡ after_hashes hashes s.map → t.empty ≡ (s.empty && (length hashes == 0)) → Leaves hashing a text (line_state t) others
-  leaves_lines a s t text rest others hashes before are map_is empty_is = λ more.
-      before more ∙ ap (with_lines hashing (line_state s)) (are.2 more) ∙ with_lines-append are.0 (lines_after [] (others ++ more)) (line_state s)
-      ∙ ap (λ u. with_lines hashing u (lines_after [] (others ++ more))) (sym (state_after_lines s t hashes are.0 are.1 map_is empty_is))
+  leaves_lines a s t text rest others hashes before are map_is empty_is = (
+    before.0 ++ are.0,
+    state_after_lines s t hashes are.0 are.1 map_is empty_is ∙ ap (λ u. with_lines hashing u are.0) before.1 ∙ sym (with_lines-append before.0 are.0 a),
+    λ more. before.2 more ∙ ap (λ ls. before.0 ++ ls) (are.2 more) ∙ sym (append_assoc before.0 are.0 (lines_after [] (others ++ more))),
+  )
+
+  -- the state after the first lines, with what is left
+  left_same : (a b : LineState) (text rest more : List ℕ) → Leaves hashing a text b rest → with_lines hashing a (lines_after [] (text ++ more)) ≡ with_lines hashing b (lines_after [] (rest ++ more))
+  left_same a b text rest more leaves =
+      ap (with_lines hashing a) (leaves.2 more)
+      ∙ with_lines-append leaves.0 (lines_after [] (rest ++ more)) a
+      ∙ ap (λ s. with_lines hashing s (lines_after [] (rest ++ more))) (sym leaves.1)
+
+  -- updates stopped within the hashes of some lines: exactly the lines before the one at which they stopped are inserted
+  pub stops_first : (a : LineState) (s t : Updatable ℕ) (text rest others hashes : List ℕ) → Leaves hashing a text (line_state s) rest → AreHashesOfLines hashing rest hashes others → StopsUpdates hashes s t →
+      InsertsFirst hashing a [] text (line_state t)
+  stops_first a s t text rest others hashes before are stops =
+      let front = stops.0 in
+      let count = length front in
+      let some = take count are.0 in
+      let parted : are.0 ≡ some ++ drop count are.0 = sym (take-append-drop count are.0) in
+      let hashed : front ≡ map (line_hash hashing) some =
+      sym (take-append_seam front (stops.1 ∷ stops.2)) ∙ ap (take count) (sym stops.3 ∙ are.1) ∙ take-map (line_hash hashing) count are.0 in (
+        before.0 ++ some,
+        state_after_lines s t front some hashed stops.4.0 stops.4.1 ∙ ap (λ u. with_lines hashing u some) before.1 ∙ sym (with_lines-append before.0 some a),
+        λ more. (
+          drop count are.0 ++ lines_after [] (others ++ more),
+          before.2 more
+              ∙ ap (λ ls. before.0 ++ ls) (are.2 more ∙ ap (λ ls. ls ++ lines_after [] (others ++ more)) parted ∙ append_assoc some (drop count are.0) (lines_after [] (others ++ more)))
+              ∙ sym (append_assoc before.0 some (drop count are.0 ++ lines_after [] (others ++ more))),
+        ),
+      )
+
+  -- nothing was inserted
+  pub none_first : (a b : LineState) (front piece : List ℕ) → b ≡ a → InsertsFirst hashing a front piece b
+  none_first a b front piece same = ([], same, λ more. (lines_after front (piece ++ more), refl))
+
+  -- some first lines behind the first one of a block
+  pub first_behind : (a b c : LineState) (front block line others : List ℕ) → block ≡ line ++ 10 ∷ others → Lacks 10 line → b ≡ with_line hashing a (front ++ line) → InsertsFirst hashing b [] others c → InsertsFirst hashing a front block c
+  first_behind a b c front block line others is lacks taken stops = (
+    (front ++ line) ∷ stops.0,
+    stops.1 ∙ ap (λ s. with_lines hashing s stops.0) taken,
+    λ more. (
+      (stops.2 more).0,
+      ap (λ bs. lines_after front (bs ++ more)) is
+          ∙ ap (λ bs. lines_after front bs) (append_assoc line (10 ∷ others) more)
+          ∙ lines_after-line front line (others ++ more) lacks
+          ∙ ap (λ ls. (front ++ line) ∷ ls) (stops.2 more).1,
+    ),
+  )
 
   -- a block without an LF
   pub takes_lacking : (a : LineState) (front block : List ℕ) → Lacks 10 block → Takes hashing a front block a (front ++ block)
@@ -66,7 +115,7 @@ module _ (hashing : Hashing) where
       ∙ ap (λ bs. with_lines hashing a (lines_after front bs)) (append_assoc line (10 ∷ others) more)
       ∙ ap (with_lines hashing a) (lines_after-line front line (others ++ more) lacks)
       ∙ ap (λ s. with_lines hashing s (lines_after [] (others ++ more))) (sym taken)
-      ∙ leaves more
+      ∙ left_same b c others rest more leaves
       ∙ ap (with_lines hashing c) (lines_after-lacking [] rest more rest_lacks)
 
   -- two pieces in turn

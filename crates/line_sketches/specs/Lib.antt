@@ -9,3 +9,4 @@ pub mod SumsHeader
 pub mod Meeting
 pub mod Refusals
 pub mod Batches
+pub mod Pieces

@@ -4,6 +4,8 @@
 //! the image of all their lines, byte for byte. `image_of_texts` sketches texts in memory apart and unites their
 //! images.
 //!
+//! `OpenText` inserts the lines of a text that comes in pieces.
+//!
 //! The sketch of the lines of a reader, and its image as text:
 //!
 //! ```
@@ -20,6 +22,7 @@ mod hex;
 mod image_union;
 mod images;
 pub mod laws;
+mod pieces;
 mod sketching;
 mod sources;
 mod sums_header;
@@ -30,7 +33,8 @@ pub use header::{Flaw, entry_count, flaw_of, image_length};
 pub use hex::{hex_line, put_byte, read_hex};
 pub use image_union::{ImageUnion, add_images};
 pub use images::{difference, image_of, intersection, read_image};
+pub use pieces::OpenText;
 pub use sketching::{Unread, Watch, add_lines, finished, new_sketch, read_failure, sketch_lines};
 pub use sources::{BLOCK, Sources, TextReader, Texts, add_sources, sketch_sources};
 pub use sums_header::{sums_count, sums_flaw_of, sums_length};
-pub use uniting::{United, image_of_texts, unite_images, united_image};
+pub use uniting::{United, image_of_texts, unite_images, united_image, views_of};

@@ -1,5 +1,5 @@
 //! Sketches of the lines of a reader.
-ghost use Rattle.std.specs.Prelude.{◌≡◌, ◌≢◌, ◌<◌, ℕ, List, [], length, IfOk, IfErr, OnOk, IfSome, None, true};
+ghost use Rattle.std.specs.Prelude.{◌≡◌, ◌≢◌, ◌<◌, ℕ, List, [], length, IfOk, IfErr, OnOk, OnErr, IfSome, None, true};
 ghost use Rattle.sketch_base.specs.Seed.{seed_hash};
 ghost use Rattle.core_laws.specs.Refusal.{Refuses};
 ghost use Rattle.core_laws.specs.Settings.{settings_refusal};
@@ -8,7 +8,7 @@ ghost use Rattle.lines.specs.Lines.{lines_of, lines_after, Lacks};
 ghost use Rattle.lines.specs.Open.{IsOpen};
 ghost use Rattle.lines.specs.declared.key.Hashing.{Hashing};
 ghost use Rattle.line_sketches.specs.Keys.{line_state, new_state, with_lines, value_of_lines, sketch_of_value};
-ghost use Rattle.line_sketches.specs.Taking.{Takes, Leaves};
+ghost use Rattle.line_sketches.specs.Taking.{Takes, Leaves, InsertsFirst};
 ghost use Rattle.line_sketches.specs.Refusals.{RefusesRead, IsUnread, IsLasting, FailsIf};
 ghost use Rattle.std.specs.IoError.{error_kind};
 ghost use Rattle.std.specs.declared.io.ErrorKind.TheVariants.{Interrupted};
@@ -92,7 +92,8 @@ pub fn new_sketch<A: Allocator + Drop>(
 /// How many lines are hashed before their hashes are inserted together.
 const LINES_AT_ONCE: usize = 256;
 
-/// Inserts the lines of a text that end in an LF. Returns the text after the last of them, and their number.
+/// Inserts the lines of a text that end in an LF. Returns the text after the last of them, and their number. Refused only
+/// with `OutOfMemory`; then exactly some first lines are inserted, perhaps none.
 fn take_lines<'a, A: Allocator + Clone>(
     sketch: &mut ThetaSketch<A>,
     hashing: Hashing,
@@ -100,6 +101,7 @@ fn take_lines<'a, A: Allocator + Clone>(
 ) -> Result<(&'a [u8], u64), Error>
     ensures lacks { IfOk result (λ x. Lacks 10 x.0.now) }
     ensures leaves { IfOk result (λ x. Leaves hashing (line_state sketch.old) text.now (line_state sketch.new) x.0.now) }
+    ensures stopped { OnErr result (InsertsFirst hashing (line_state sketch.old) [] text.now (line_state sketch.new)) }
     ensures refused { Refuses result None true }
 {
     let mut hashes = [0u64; LINES_AT_ONCE];
@@ -117,8 +119,9 @@ fn take_lines<'a, A: Allocator + Clone>(
 }
 
 /// Inserts the lines that end in a block, which continues an open line. The open line is then the text after the
-/// block's last LF. Returns how many lines ended.
-fn take_block<A: Allocator + Clone>(
+/// block's last LF. Returns how many lines ended. Refused only with `OutOfMemory`; then exactly some first lines are
+/// inserted, perhaps none, and the open line is unspecified.
+pub(crate) fn take_block<A: Allocator + Clone>(
     sketch: &mut ThetaSketch<A>,
     hashing: Hashing,
     last: &mut OpenLine,
@@ -130,6 +133,9 @@ fn take_block<A: Allocator + Clone>(
         (after : List ℕ)
         × IsOpen hashing after last.new
         × Takes hashing (line_state sketch.old) before block.now (line_state sketch.new) after) }
+    ensures stopped { (before : List ℕ)
+        → IsOpen hashing before last.old
+        → OnErr result (InsertsFirst hashing (line_state sketch.old) before block.now (line_state sketch.new)) }
     ensures refused { Refuses result None true }
 {
     let Some((first, others)) = cut_line(block) else {
@@ -144,14 +150,15 @@ fn take_block<A: Allocator + Clone>(
     Ok(count.wrapping_add(1))
 }
 
-/// Inserts a last line without an LF, if it has a byte.
-fn take_last<A: Allocator + Clone>(
+/// Inserts a last line without an LF, if it has a byte. Refused only with `OutOfMemory`; then the sketch is unchanged.
+pub(crate) fn take_last<A: Allocator + Clone>(
     sketch: &mut ThetaSketch<A>,
     last: &OpenLine,
 ) -> Result<(), Error>
     ensures taken { (hashing : Hashing) (front : List ℕ)
         → IsOpen hashing front last.now
         → OnOk result (line_state sketch.new ≡ with_lines hashing (line_state sketch.old) (lines_after front [])) }
+    ensures err { OnErr result (line_state sketch.new ≡ line_state sketch.old) }
     ensures refused { Refuses result None true }
 {
     if last.is_begun() {

@@ -53,12 +53,13 @@ impl<A: Allocator + Clone> ImageUnion for ThetaUnion<A> {
     }
 }
 
-/// Views of sketches.
-fn views_of<'a, A: Allocator + Clone + Drop>(
+/// Views of sketches, in their order.
+pub fn views_of<'a, A: Allocator + Clone + Drop>(
     alloc: A,
     sketches: &'a [CompactThetaSketch<A>],
 ) -> Result<Vec<ThetaSketchView<'a, A>, A>, AllocError>
     ensures shown { IfOk result (λ v. map (λ view. view_shows view) v.items ≡ map (shown_of hash_key) sketches.now) }
+    ensures listed { IfOk result (λ v. map (λ view. view_sequence view) v.items ≡ map (λ s. s.entries) sketches.now) }
     ensures values { IfOk result (λ v.
         map (λ view. shown_value hash_key (view_shows view) (view_sequence view)) v.items
         ≡ values_of_sketches sketches.now) }

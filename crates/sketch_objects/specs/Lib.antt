@@ -1,3 +1,4 @@
+pub mod Batch
 pub mod Bounds
 pub mod Buffer
 pub mod CompactSums
@@ -11,6 +12,7 @@ pub mod Strings
 pub mod Sums
 pub mod SumsIntersection
 pub mod SumsUnion
+pub mod Texts
 pub mod Thetas
 pub mod Totals
 pub mod Union

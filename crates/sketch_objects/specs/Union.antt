@@ -2,13 +2,14 @@
 use Rattle.std.specs.Prelude.{◌≡◌, ◌⊎◌, ℕ, List, true, not, None}
 use Rattle.sketch_base.specs.Seed.{seed_hash}
 use Rattle.sketch_base.specs.declared.error.ErrorKind.{ErrorKind}
-use Rattle.core_compact.specs.CompactState.{Compact, IsAnswer}
+use Rattle.core_compact.specs.CompactState.{Compact, IsAnswer, shown_of}
 use Rattle.core_laws.specs.Entries.{hash_key}
 use Rattle.core_laws.specs.Shown.{Shown}
 use Rattle.core_laws.specs.declared.TheConstants.{MAX_THETA}
-use Rattle.core_operators.specs.Union.{empty_union, union_value, update_refusal, failure, JoinsHashes, UnitesHashes, IsHashUpdateError}
+use Rattle.core_operators.specs.Union.{empty_union, union_value, update_refusal, failure, JoinsHashes, UnitesHashes, IsHashUpdateError, all_empty, update_all_refusal, JoinsAllHashes, UnitesAllHashes, IsHashUpdateAllError}
 use Rattle.theta_sketches.specs.Image.{written}
 use Rattle.sketch_objects.specs.Status.{status_of, IsRefusal}
+use Rattle.sketch_objects.specs.declared.batch.SeededBatch.{SeededBatch}
 use Rattle.sketch_objects.specs.declared.compact.CompactSketch.{CompactSketch}
 use Rattle.sketch_objects.specs.declared.union.SeededUnion.{SeededUnion}
 
@@ -32,6 +33,29 @@ abbrev pub AddsShown : Shown → (listing : List ℕ) → (old : SeededUnion) �
 AddsShown shown listing old status new =
     (new.seed ≡ old.seed)
     × (((status ≡ 0) × Merges shown listing old new) ⊎ ((e : ErrorKind) × (status ≡ status_of e) × IsHashUpdateError old.union new.union shown e))
+
+-- sketches were merged together, with status 0: the union's value is united with all of theirs, as by one update after
+-- another, and only if all are Empty nothing changes
+abbrev pub MergesAll : List (Compact ℕ) → (old new : SeededUnion) → Type 0
+MergesAll sketches old new =
+    (update_all_refusal old.union (shown_of hash_key) sketches ≡ None)
+    × (all_empty (shown_of hash_key) sketches ≡ true → new.union ≡ old.union)
+    × UnitesAllHashes old.union new.union (shown_of hash_key) (λ s. s.entries) sketches
+    × JoinsAllHashes old.union new.union (shown_of hash_key) (λ s. s.entries) sketches
+    × (new.union ≡ record old.union { empty = new.union.empty; content = new.union.content })
+
+-- sketches were merged; or the union refused them, with 1 if one that isn't Empty has another seed and with 5 if it has
+-- failed, and is unchanged; or memory was refused, with 3, and the union has failed, or is unchanged
+abbrev pub AddsAll : List (Compact ℕ) → (old : SeededUnion) → (status : ℕ) → (new : SeededUnion) → Type 0
+AddsAll sketches old status new =
+    (new.seed ≡ old.seed)
+    × (((status ≡ 0) × MergesAll sketches old new)
+    ⊎ (((e : ErrorKind) × (status ≡ status_of e) × IsHashUpdateAllError old.union new.union (shown_of hash_key) sketches e)
+    ⊎ ((status ≡ 3) × (new.union ≡ old.union))))
+
+-- the sketches of a batch were merged
+abbrev pub AddsBatch : SeededBatch → (old : SeededUnion) → (status : ℕ) → (new : SeededUnion) → Type 0
+AddsBatch batch old status new = AddsAll batch.sketches.items old status new
 
 -- the union's value as an ordered compact sketch
 abbrev pub IsUnionResult : SeededUnion → CompactSketch → Type 0

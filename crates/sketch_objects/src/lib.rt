@@ -1,9 +1,10 @@
-//! The objects behind the handles of C: sketches, unions and intersections, with the seed of their hashes.
+//! The objects behind the handles of C: sketches, batches, unions and intersections, with the seed of their hashes.
 //!
 //! Calls report refusals to C by a status (`status`), not by an error. What C does with objects of several kinds is a
 //! trait (`objects`); `c_handles` has the handles, and `sketch_c` one export for each call.
 #![tactic(auto)]
 
+pub mod batch;
 pub mod bounds;
 pub mod buffer;
 pub mod compact;
@@ -21,5 +22,6 @@ pub mod strings;
 pub mod sums;
 pub mod sums_intersection;
 pub mod sums_union;
+pub mod texts;
 pub mod theta;
 pub mod union;

@@ -5,16 +5,18 @@ ghost use Rattle.core_laws.specs.Settings.{settings_refusal};
 ghost use Rattle.core_laws.specs.declared.TheConstants.{MAX_THETA};
 ghost use Rattle.theta_sketches.specs.View.{view_shows, view_sequence};
 ghost use Rattle.sketch_objects.specs.Thetas.{OfSketch, OfCompact, OfImage};
-ghost use Rattle.sketch_objects.specs.Union.{IsNewUnion, AddsShown, IsUnionResult, IsUnionImage, IsResultRefusal, ResetsUnion};
+ghost use Rattle.sketch_objects.specs.Union.{IsNewUnion, AddsShown, AddsAll, AddsBatch, IsUnionResult, IsUnionImage, IsResultRefusal, ResetsUnion};
 ghost use Rattle.sketch_objects.specs.declared.union.SeededUnion.{SeededUnion};
 
+use crate::batch::SeededBatch;
 use crate::compact::CompactSketch;
 use crate::objects::{Accepts, AcceptsImages, CanReset, FromImage, HasCompact, HasImage};
-use crate::status::{OK, status_of};
+use crate::status::{OK, OUT_OF_MEMORY, status_of};
 use crate::theta::SeededSketch;
+use line_sketches::views_of;
 use sketch_base::Error;
 use std::alloc::Global;
-use theta_sketches::{ThetaSketchView, ThetaUnion, ThetaUnionBuilder};
+use theta_sketches::{CompactThetaSketch, ThetaSketchView, ThetaUnion, ThetaUnionBuilder};
 
 /// A union, and the seed of its sketches.
 #[derive(Drop)]
@@ -69,6 +71,30 @@ impl AcceptsImages for SeededUnion {
             Ok(sketch) => add(self, sketch.sketch.as_view()),
             Err(status) => status,
         }
+    }
+}
+
+/// Merges sketches into a union at once. The status is `OK`; or that of the refusal, `OUT_OF_MEMORY` also if memory for
+/// their views is refused, and then nothing has changed.
+fn add_all(union: &mut SeededUnion, alloc: Global, sketches: &[CompactThetaSketch]) -> u32
+    ensures { AddsAll sketches.now union.old result union.new }
+{
+    let views = match views_of(alloc, sketches) {
+        Ok(views) => views,
+        Err(_) => return OUT_OF_MEMORY,
+    };
+    match union.union.update_all(views.as_slice()) {
+        Ok(()) => OK,
+        Err(error) => status_of(error.kind()),
+    }
+}
+
+/// All sketches of a batch, at once.
+impl Accepts<SeededBatch> for SeededUnion {
+    ghost adds = { AddsBatch };
+
+    fn add(&mut self, batch: &SeededBatch) -> u32 {
+        add_all(self, *batch.sketches.allocator(), batch.sketches.as_slice())
     }
 }
 

@@ -19,6 +19,9 @@ loop-sketch-preserved g c =
       shown =
           mapped_more (λ v. view_shows v) (shown_of hash_key) new old view sketches i item c.in_ok-push.ensures.items lt c.loop-sketch.invariant.shown
           (c.as_view.ensures.shows ∙ ap (shown_of hash_key) c.sketch-item.is);
+      listed =
+          mapped_more (λ v. view_sequence v) (λ s. s.entries) new old view sketches i item c.in_ok-push.ensures.items lt c.loop-sketch.invariant.listed
+          (c.as_view.ensures.sequence ∙ ap (λ s. s.entries) c.sketch-item.is);
       values =
           mapped_more (λ v. shown_value hash_key (view_shows v) (view_sequence v)) (λ s. compact_value hash_key s) new old view sketches i item c.in_ok-push.ensures.items lt c.loop-sketch.invariant.values
           (c.as_view.ensures.value ∙ ap (λ s. compact_value hash_key s) c.sketch-item.is);
@@ -26,6 +29,9 @@ loop-sketch-preserved g c =
 
 pub returns-clause-shown : goal.returns-clause-shown
 returns-clause-shown g c = c.loop-sketch.invariant.shown ∙ ap (map (shown_of hash_key)) (take_all c.loop-sketch.sketch-index c.args.sketches.now c.loop-sketch-test.false)
+
+pub returns-clause-listed : goal.returns-clause-listed
+returns-clause-listed g c = c.loop-sketch.invariant.listed ∙ ap (map (λ s. s.entries)) (take_all c.loop-sketch.sketch-index c.args.sketches.now c.loop-sketch-test.false)
 
 pub returns-clause-values : goal.returns-clause-values
 returns-clause-values g c = c.loop-sketch.invariant.values ∙ ap (map (λ s. compact_value hash_key s)) (take_all c.loop-sketch.sketch-index c.args.sketches.now c.loop-sketch-test.false)

@@ -9,5 +9,6 @@ use Rattle.line_sketches.proofs.uniting.views_of.Given as goal
 abbrev pub invariant-loop-sketch : goal.invariant-loop-sketch
 invariant-loop-sketch g l = record {
   shown : map (λ view. view_shows view) l.views.items ≡ map (shown_of hash_key) (take l.sketch-index l.sketches);
+  listed : map (λ view. view_sequence view) l.views.items ≡ map (λ s. s.entries) (take l.sketch-index l.sketches);
   values : map (λ view. shown_value hash_key (view_shows view) (view_sequence view)) l.views.items ≡ map (λ s. compact_value hash_key s) (take l.sketch-index l.sketches);
 }
