@@ -15,8 +15,8 @@ type TraitTable<'h> = RunTable<ThetaHashTable<&'h Heap>, &'h Heap>;
 /// The plain table of a line.
 type PlainObject<'h> = RunTable<PlainTable<ThetaEntry, &'h Heap>, &'h Heap>;
 
-/// Appends the answers to a line of tables, and returns whether its object is one of these. The only error is
-/// that of a program without memory.
+/// Appends the answers to a line of tables, and returns whether its object is one of these.
+/// The only error is that of a program without memory.
 pub fn answer(
     heap: &Heap,
     object: &str,

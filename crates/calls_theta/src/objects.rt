@@ -10,8 +10,8 @@ use calls_language::driver::{Line, answer_line};
 use calls_language::object::Heap;
 use std::alloc::AllocError;
 
-/// Appends the answers to a line of theta sketches, estimates and texts, and returns whether its object is one of these. The only error is
-/// that of a program without memory.
+/// Appends the answers to a line of theta sketches, estimates or texts, and returns whether it is one.
+/// The only error is that of a program without memory.
 pub fn answer(
     heap: &Heap,
     object: &str,
