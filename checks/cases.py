@@ -1,5 +1,5 @@
 #!/usr/bin/env python3
-"""Unpacks the cases of examples/*.cases: checks/cases.py FOLDER writes each as FOLDER/FILE_NAME, its plan, and FOLDER/FILE_NAME.stdout,
+"""Unpacks the cases of tests/plans/*.cases: checks/cases.py FOLDER writes each as FOLDER/FILE_NAME, its plan, and FOLDER/FILE_NAME.stdout,
 its answer.
 
 A case is a line NAME | PLAN | ANSWER. In both texts:
@@ -68,12 +68,12 @@ def write(path, lines):
 
 def main():
     folder = sys.argv[1]
-    examples = os.path.join(os.path.dirname(os.path.abspath(__file__)), "..", "examples")
-    for entry in sorted(os.listdir(examples)):
+    plans = os.path.join(os.path.dirname(os.path.abspath(__file__)), "..", "tests", "plans")
+    for entry in sorted(os.listdir(plans)):
         subject, ending = os.path.splitext(entry)
         if ending != ".cases":
             continue
-        with open(os.path.join(examples, entry), encoding="ascii") as file:
+        with open(os.path.join(plans, entry), encoding="ascii") as file:
             for name, plan, answer in cases_of(file.read()):
                 write(f"{folder}/{subject}_{name}", plan)
                 write(f"{folder}/{subject}_{name}.stdout", answer)

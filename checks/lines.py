@@ -2,7 +2,7 @@
 """What the program `distinct` writes, computed from docs/use/FORMATS.md, docs/verify/SPECIFICATION.md and docs/use/DISTINCT.md alone.
 
 checks/lines.py COMMAND [OPTION..] [FILE..] writes it. checks/lines.py --check FOLDER compares it with the cases of a folder,
-such as examples/lines: what is written, to standard output and to files, and the status; where a case has NAME.stderr, also
+such as tests/distinct: what is written, to standard output and to files, and the status; if a case has messages, also
 the message, if a file's contents are at fault. It doesn't know the messages of wrong arguments and of the system, nor the
 texts of --help and --version. It shares no code with the program.
 """
@@ -13,6 +13,9 @@ import os
 import re
 import struct
 import sys
+
+sys.dont_write_bytecode = True
+import distinct_cases
 
 MAX_THETA = 2**63 - 1
 DEFAULT_SEED = 9001
@@ -824,68 +827,63 @@ def bytes_of(path):
         return file.read()
 
 
-def files_of(folder, mark=""):
-    if not os.path.isdir(folder):
-        return {}
-    paths = [os.path.relpath(f"{place}/{it}", folder) for place, _, names in os.walk(folder) for it in names]
-    return {mark + it: bytes_of(f"{folder}/{it}") for it in paths}
+def case_files(files):
+    """The files of the folder of a case, by the names that arguments have."""
+    return {"@" + name: text for name, text in (files or {}).items()}
 
 
-def wrong_in(case):
-    """What differs in a case, if anything."""
-    data = os.path.join(os.path.dirname(case), "data")
-    files = files_of(data) | files_of(case + ".before", "@") | {"-": bytes_of(case + ".stdin")}
+def wrong_in(case, data):
+    """What differs in a case, if anything. These are the files of the folder in which it runs."""
+    files = data | case_files(case.before) | {"-": case.input}
     files |= {it.decode(): files["keys.theta"] for it in files["odd.list"].split(b"\0") if it}
     status, answer, messages = 0, b"", []
-    if any(text in bytes_of(case + ".stderr") for text in (b"(os error ", b": is a directory")):
+    if any(text in (case.messages or b"") for text in (b"(os error ", b": is a directory")):
         raise Uncomputed("an error of the system")
     try:
-        answer = run(bytes_of(case + ".args").decode().splitlines(), files, messages)
+        answer = run(case.arguments, files, messages)
     except Fault:
         status, messages = 2, None
     except Failure as failure:
         status, messages = 1, [str(failure)]
     if any("/" in it for it in files if not it.startswith("@")):
         raise Uncomputed("a file in another folder")
-    if status != int(bytes_of(case + ".status") or 0):
+    if status != case.status:
         return "status"
-    if answer != bytes_of(case + ".stdout"):
+    if answer != case.output:
         return "answer"
     said = "".join(f"distinct: {it}\n" for it in messages or [])
-    if messages is not None and os.path.exists(case + ".stderr") and said.encode() != bytes_of(case + ".stderr"):
+    if messages is not None and case.messages is not None and said.encode() != case.messages:
         return "message"
     after = {name: text for name, text in files.items() if name.startswith("@")}
-    if os.path.exists(case + ".before") and after != files_of(case + ".after", "@"):
+    if case.before is not None and after != case_files(case.after):
         return "files"
     return None
 
 
-def wrong_help(case):
+def wrong_help(name, case):
     """What is wrong with the text of help on a command: it names its options and no others, in lines of at most 100 bytes."""
-    command = case.rpartition("help_on_")[2]
-    text = bytes_of(case + ".stdout").decode()
+    command = name.rpartition("help_on_")[2]
+    text = case.output.decode()
     named = set(re.findall(r"(?<!\S)-C|--[a-z0-9-]+", text)) - {"--help"}
     options = set(OPTIONS.get(command, "").split())
     long = [line for line in text.split("\n") if len(line.encode()) > 100]
     differ = sorted(named ^ options) if command in OPTIONS else []
-    return [f"{case}: {it}" for it in long + differ]
+    return [f"{name}: {it}" for it in long + differ]
 
 
 def check(folder):
     wrong, uncomputed, number = [], [], 0
-    for it in sorted(os.listdir(folder)):
-        if not it.endswith(".args"):
-            continue
-        case = os.path.join(folder, it[: -len(".args")])
+    data = {it: bytes_of(os.path.join(folder, "data", it)) for it in os.listdir(os.path.join(folder, "data"))}
+    for name, case in distinct_cases.read(folder).items():
         try:
-            differs = wrong_in(case)
+            differs = wrong_in(case, data)
             number += 1
-            wrong += [f"{case}: another {differs}"] * (differs is not None)
+            wrong += [f"{name}: another {differs}"] * (differs is not None)
         except Uncomputed as reason:
-            wrong += wrong_help(case)
+            wrong += wrong_help(name, case)
             is_text = str(reason).endswith(("--help", "-h", "--version", "-V"))
-            kind = wrong if not is_text and not bytes_of(case + ".status") else uncomputed
-            kind.append(f"{case}: not computed: {reason}")
+            kind = wrong if not is_text and not case.status else uncomputed
+            kind.append(f"{name}: not computed: {reason}")
     if wrong:
         sys.exit("\n".join(wrong))
     print("\n".join(uncomputed + [f"lines: {number} cases are as computed, {len(uncomputed)} are not computed"]))

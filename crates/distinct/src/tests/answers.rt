@@ -434,7 +434,7 @@ const GROUPS: [&str; 2] = [
 /// Users, each with days.
 const DAYS: [&str; 2] = ["x;1\ny;1\nx;2\ny;2", "z;1\ny;3\ny;3\n;5"];
 
-/// Each command; `examples/lines` has its options. What is to be written of `ESTIMATING` is by `checks/answers.py`, and of
+/// Each command; `tests/distinct` has its options. What is to be written of `ESTIMATING` is by `checks/answers.py`, and of
 /// the others by a program in Python that knows the public definition of the hash and the formula of bounds.
 #[test]
 fn writes_each_answer(rt: HostRuntime) -> Result<(), Fail> {

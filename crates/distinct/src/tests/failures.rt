@@ -1,4 +1,4 @@
-//! Tests of the messages and statuses of failures that no case of `examples/lines` has.
+//! Tests of the messages and statuses of failures that no case of `tests/distinct` has.
 use distinct_arguments::Fault;
 use distinct_inputs::Failure;
 use std::alloc::{AllocError, Global};
