@@ -243,5 +243,5 @@ def check():
         if not agree(wanted, found.replace("/+", "/1")):
             wrong.append(f"{line}\nis answered  {found}\nin place of  {wanted}")
     if wrong:
-        sys.exit("\n".join([*wrong, f"answers: the model answers {len(wrong)} of {count} rows otherwise"]))
-    print(f"answers: the model answers {count} rows as they are written")
+        sys.exit("\n".join([*wrong, f"expected_answers: the model answers {len(wrong)} of {count} rows otherwise"]))
+    print(f"expected_answers: the model answers {count} rows as they are written")

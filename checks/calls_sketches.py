@@ -4,7 +4,7 @@ of both families, readings, texts and estimates.
 Each object has its calls as methods that begin with `do_`. Such a call has the words behind its name as arguments, and returns its answer
 and the requests for memory: "0" for none, "+" for at least one, ANY if the specification doesn't say.
 """
-import lines
+import model_distinct
 from calls_words import ANY, FEW, Condition, Unknown, keys, number, octets, operand, outcome, repeated, series, settings_of, with_value
 from model_hash import DEFAULT_SEED, hash_of
 from model_operators import Intersection, Union, difference
@@ -267,7 +267,24 @@ class Operator:
         return call_answer(compact, self.can_write)
 
 
-class UnionObject(Operator):
+class UnionCalls:
+    """Calls that a union and its state answer alike."""
+
+    def do_lower_lg_k(self, word):
+        lg_k = number(word, 8)
+        memory = "0" if self.union.lg_k == lg_k and not self.union.failed else "+" if lg_k < self.union.lg_k else ANY
+        answer = outcome(self.union.lower_lg_k, lg_k)
+        return answer, "0" if answer in ("failed", "argument") else memory
+
+    def do_reset(self):
+        self.union.reset()
+        return "ok", "0"
+
+    def do_size(self):
+        return ANY, "0"
+
+
+class UnionObject(UnionCalls, Operator):
     """A union."""
 
     made_memory = "+"
@@ -284,24 +301,11 @@ class UnionObject(Operator):
     def do_update_all(self, *words):
         return outcome(self.union.update_all, [self.operand(word) for word in bracketed(words, " ")]), ANY
 
-    def do_lower_lg_k(self, word):
-        lg_k = number(word, 8)
-        memory = "0" if self.union.lg_k == lg_k and not self.union.failed else "+" if lg_k < self.union.lg_k else ANY
-        answer = outcome(self.union.lower_lg_k, lg_k)
-        return answer, "0" if answer in ("failed", "argument") else memory
-
-    def do_reset(self):
-        self.union.reset()
-        return "ok", "0"
-
     def do_to_sketch(self, flag):
         ordered = is_ordered(flag)
         if self.union.failed:
             return "failed", "0"
         return self.answer(self.union.to_sketch(ordered))
-
-    def do_size(self):
-        return ANY, "0"
 
     def do_see(self):
         return ("failed", "0") if self.union.failed else seen(self.union.to_sketch(True))
@@ -396,7 +400,7 @@ class Texts:
         own_hash = check_settings(self.settings)
         texts = [b"" if text == "-" else text.replace("_", "\n").encode() for text in texts]
         options = {"--lg-k": self.settings.lg_k, "--field": None, "--separator": b"\t"}
-        return lines.image_of(lines.sketch_of(texts, options, self.settings.seed), own_hash).hex(), "0"
+        return model_distinct.image_of(model_distinct.sketch_of(texts, options, self.settings.seed), own_hash).hex(), "0"
 
     def do_see(self):
         return "ok", "0"
@@ -417,7 +421,7 @@ class Estimates:
             raise Unknown
         if retained >= 2**32 or not 1 <= theta <= MAX_THETA:
             raise Condition
-        return "{} {}".format(*lines.count_bounds(deviations, retained, theta)), "0"
+        return "{} {}".format(*model_distinct.count_bounds(deviations, retained, theta)), "0"
 
     def do_decimal(self, count, theta, places):
         count, theta, places = number(count), number(theta), places_of(places)

@@ -3,7 +3,7 @@
 As in calls_sketches.py, a call is a method that begins with `do_`, and returns its answer and its requests for memory.
 """
 from calls_layers import one_setting
-from calls_sketches import bracketed, is_ordered, list_memory, made_operand, places_of, state_text, view_text
+from calls_sketches import UnionCalls, bracketed, is_ordered, list_memory, made_operand, places_of, state_text, view_text
 from calls_tables import TableObject, pairs_of
 from calls_words import ANY, Unknown, is_key, number, outcome, series, settings_of
 from model_operators import Intersection, Union, difference
@@ -47,7 +47,7 @@ class Difference:
         return "ok", "0"
 
 
-class UnionState:
+class UnionState(UnionCalls):
     """The state of a union of hashes."""
 
     made_memory = "+"
@@ -67,22 +67,9 @@ class UnionState:
             raise Unknown
         return outcome(self.union.update_all, [state_operand(word, self.kind) for word in words]), ANY
 
-    def do_lower_lg_k(self, word):
-        lg_k = number(word, 8)
-        memory = "0" if self.union.lg_k == lg_k and not self.union.failed else "+" if lg_k < self.union.lg_k else ANY
-        answer = outcome(self.union.lower_lg_k, lg_k)
-        return answer, "0" if answer in ("failed", "argument") else memory
-
-    def do_reset(self):
-        self.union.reset()
-        return "ok", "0"
-
     def do_state(self, flag):
         ordered = is_ordered(flag)
         return ("failed", "0") if self.union.failed else state_answer(self.union.to_sketch(ordered))
-
-    def do_size(self):
-        return ANY, "0"
 
     def do_see(self):
         return ("failed", "0") if self.union.failed else state_answer(self.union.to_sketch(True))

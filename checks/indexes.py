@@ -1,6 +1,6 @@
 """What is listed of the crates: their files of definitions and lemmas by their first comments, wrong bodies, and counts.
 
-`checks/pages --write FOLDER` writes these lists and the public items of all libraries as pages into a folder, which isn't committed.
+`checks/pages.py --write FOLDER` writes these lists and the public items of all libraries as pages into a folder, which isn't committed.
 """
 import os
 import re
@@ -89,7 +89,7 @@ def write(place):
     rows = [(crate, *counts(crate)) for crate in crates()]
     rows.append(("all", *(sum(row[at] for row in rows) for at in range(1, 5))))
     pages["counts.md"] = table("Counts", ("crate", "functions", "tests", *WRONG), rows)
-    pages["API.md"] = subprocess.run([sys.executable, "checks/api", "--all"], capture_output=True, text=True, check=True).stdout
+    pages["API.md"] = subprocess.run([sys.executable, "checks/api_page.py", "--all"], capture_output=True, text=True, check=True).stdout
     os.makedirs(place, exist_ok=True)
     for name, text in pages.items():
         with open(os.path.join(place, name), "w", encoding="utf-8") as file:

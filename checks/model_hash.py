@@ -6,33 +6,9 @@ then the bytes.
 """
 import struct
 
-from lines import M64, first_mixing, rotl, second_mixing, spread
+from model_distinct import DEFAULT_SEED, murmur128, seed_hash  # noqa: F401
 
-DEFAULT_SEED = 9001
 INTEGERS = {"u8": "<B", "u16": "<H", "u32": "<I", "u64": "<Q", "i8": "<b", "i16": "<h", "i32": "<i", "i64": "<q"}
-
-
-def murmur128(data, seed):
-    """Both halves of the hash of some bytes."""
-    h1 = h2 = seed
-    whole = len(data) // 16 * 16
-    for place in range(0, whole, 16):
-        k1, k2 = struct.unpack_from("<QQ", data, place)
-        h1 = (rotl(h1 ^ first_mixing(k1), 27) + h2) * 5 + 0x52DCE729 & M64
-        h2 = (rotl(h2 ^ second_mixing(k2), 31) + h1) * 5 + 0x38495AB5 & M64
-    k1, k2 = struct.unpack("<QQ", data[whole:].ljust(16, b"\0"))
-    h1 ^= first_mixing(k1) ^ len(data)
-    h2 ^= second_mixing(k2) ^ len(data)
-    h1 = h1 + h2 & M64
-    h2 = h2 + h1 & M64
-    h1, h2 = spread(h1), spread(h2)
-    h1 = h1 + h2 & M64
-    return h1, h2 + h1 & M64
-
-
-def seed_hash(seed):
-    """The hash of a seed, of 16 bits; 0 is refused by its callers."""
-    return murmur128(struct.pack("<Q", seed), 0)[0] & 0xFFFF
 
 
 def hash_of(data, seed):

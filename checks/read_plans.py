@@ -1,4 +1,4 @@
-"""A second reader of plan texts, written from docs/ (the evaluation after answers.py), and texts that are damaged by chance for it.
+"""A second reader of plan texts, written from docs/ (the evaluation after expected_answers.py), and texts that are damaged by chance for it.
 
 `answers(text)` are the lines that crates/readings may print for a text: one line, but for a tuple plan that may be refused by
 its sums. docs/use/FORMATS.md says which texts are plans and which fault another text has, docs/verify/SPECIFICATION.md what a plan's

@@ -1,4 +1,4 @@
-/* The loops of bench/python/run in C: a line for each case and lg_k, with nanoseconds of processor time for each key, line or image,
+/* The loops of bench/python/run.py in C: a line for each case and lg_k, with nanoseconds of processor time for each key, line or image,
  * the least of so many rounds. Arguments: the number of keys, the rounds, and a file of lines. */
 #include <fcntl.h>
 #include <kaftanclay.h>

@@ -1,4 +1,4 @@
-"""The tests compare with checks/lines.py and checks/read_images.py, which know the sketches from the pages alone."""
+"""The tests compare with checks/model_distinct.py and checks/read_images.py, which know the sketches from the pages alone."""
 import os
 import sys
 

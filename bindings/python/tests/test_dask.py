@@ -1,4 +1,4 @@
-"""Collections of Dask, by its schedulers of one process; checks/dask uses a cluster."""
+"""Collections of Dask, by its schedulers of one process; checks/dask_cluster.py uses a cluster."""
 import pytest
 from kaftanclay import InvalidArgumentError, ThetaSketch
 

@@ -1,4 +1,4 @@
-"""Images are those of the program distinct, which DISTINCT_PROGRAM names, as checks/doors does."""
+"""Images are those of the program distinct, which DISTINCT_PROGRAM names, as checks/bindings does."""
 import os
 import subprocess
 

@@ -5,7 +5,7 @@ import threading
 from array import array
 from pathlib import Path
 
-import lines
+import model_distinct
 import pytest
 from kaftanclay import (
     CompactThetaSketch,
@@ -195,13 +195,13 @@ def test_lines(text, tmp_path):
 
 
 def test_lines_by_another_program():
-    """The sketch of lines that checks/lines.py computes."""
+    """The sketch of lines that checks/model_distinct.py computes."""
     text = TEXTS["many lines"]
     sketch = ThetaSketch()
     sketch.update_lines(io.BytesIO(text))
     sketch.trim()
-    hashes = {lines.murmur(line, 9001) >> 1 for line in lines_of(text)}
-    assert sketch.to_bytes() == lines.image_of(lines.cut(4096, hashes, 2**63 - 1), lines.seed_hash(9001))
+    hashes = {model_distinct.murmur(line, 9001) >> 1 for line in lines_of(text)}
+    assert sketch.to_bytes() == model_distinct.image_of(model_distinct.cut(4096, hashes, 2**63 - 1), model_distinct.seed_hash(9001))
 
 
 def test_lines_of_another_seed():

@@ -3,7 +3,7 @@ import copy
 import operator
 import pickle
 
-import lines
+import model_distinct
 import pytest
 from kaftanclay import (
     DEFAULT_SEED,
@@ -23,7 +23,7 @@ from kaftanclay import (
 
 def hash_of(key, seed=DEFAULT_SEED):
     data = key.encode() if isinstance(key, str) else key if isinstance(key, bytes) else key.to_bytes(8, "little")
-    return lines.murmur(data, seed) >> 1
+    return model_distinct.murmur(data, seed) >> 1
 
 
 def sums_of(values, lg_k=12, seed=DEFAULT_SEED):
@@ -37,24 +37,24 @@ def sums_of(values, lg_k=12, seed=DEFAULT_SEED):
 
 def items_of(values, k=4096):
     """The items of such a sketch, and its theta, from the pages alone."""
-    hashes, theta = lines.cut(k, {hash_of(key) for key in values}, MAX_THETA)
+    hashes, theta = model_distinct.cut(k, {hash_of(key) for key in values}, MAX_THETA)
     return sorted((hash_of(key), value) for key, value in values.items() if hash_of(key) in hashes), theta
 
 
 def value_of(values, seed=DEFAULT_SEED):
     """Such a sketch, from the pages alone: None if it is empty, or a dict of its hashes and their sums, and its theta."""
     sums = {hash_of(key, seed): value for key, value in values.items()}
-    hashes, theta = lines.cut(4096, sums, MAX_THETA)
+    hashes, theta = model_distinct.cut(4096, sums, MAX_THETA)
     return ({hash: sums[hash] for hash in hashes}, theta) if values else None
 
 
 def combined(kind, first, second):
     """The intersection, by &, or the difference, by -, of two such sketches, from the pages alone."""
-    return lines.two_sums(kind, first, second, 4096)
+    return model_distinct.two_sums(kind, first, second, 4096)
 
 
 def image_of(value, seed=DEFAULT_SEED):
-    return lines.image_of(value, lines.seed_hash(seed), of_sums=True)
+    return model_distinct.image_of(value, model_distinct.seed_hash(seed), of_sums=True)
 
 
 def test_sums():

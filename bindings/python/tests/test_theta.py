@@ -5,7 +5,7 @@ import pickle
 from array import array
 from fractions import Fraction
 
-import lines
+import model_distinct
 import pytest
 from kaftanclay import (
     DEFAULT_SEED,
@@ -19,7 +19,7 @@ from kaftanclay import (
     ThetaUnion,
 )
 
-SEED_HASH = lines.seed_hash(DEFAULT_SEED)
+SEED_HASH = model_distinct.seed_hash(DEFAULT_SEED)
 
 
 def bytes_of(key):
@@ -27,12 +27,12 @@ def bytes_of(key):
 
 
 def value_of(keys, k=4096, seed=DEFAULT_SEED):
-    """The trimmed sketch of keys by checks/lines.py: None if it is empty, or its hashes and its theta."""
-    return lines.cut(k, {lines.murmur(bytes_of(key), seed) >> 1 for key in keys}, MAX_THETA) if keys else None
+    """The trimmed sketch of keys by checks/model_distinct.py: None if it is empty, or its hashes and its theta."""
+    return model_distinct.cut(k, {model_distinct.murmur(bytes_of(key), seed) >> 1 for key in keys}, MAX_THETA) if keys else None
 
 
 def image_of(value):
-    return lines.image_of(value, SEED_HASH)
+    return model_distinct.image_of(value, SEED_HASH)
 
 
 def sketch_of(keys, lg_k=12):
@@ -130,9 +130,9 @@ def test_values_and_operators(count):
     pairs = [(a, b, x, y), (a.compact(), b, x, y), (a, b.compact(), x, y)]
     pairs += [(a, a, x, x), (a, empty, x, None), (empty, b, None, y)]
     for first, second, *values in pairs:
-        assert (first | second).to_bytes() == image_of(lines.unite(4096, values))
-        assert (first & second).to_bytes() == image_of(lines.meet(values))
-        assert (first - second).to_bytes() == image_of(lines.minus(*values))
+        assert (first | second).to_bytes() == image_of(model_distinct.unite(4096, values))
+        assert (first & second).to_bytes() == image_of(model_distinct.meet(values))
+        assert (first - second).to_bytes() == image_of(model_distinct.minus(*values))
 
 
 def test_operators_refuse_other_types():
@@ -145,7 +145,7 @@ def test_seeds():
     first, second = ThetaSketch(seed=1), ThetaSketch(seed=2)
     first.update("ann")
     second.update("ann")
-    assert first.hashes() == [lines.murmur(b"ann", 1) >> 1] and first.seed == 1
+    assert first.hashes() == [model_distinct.murmur(b"ann", 1) >> 1] and first.seed == 1
     for call in (lambda: first | second, lambda: first & second, lambda: first - second, lambda: ThetaUnion().update(first)):
         with pytest.raises(InvalidArgumentError, match="different seeds"):
             call()
@@ -176,7 +176,7 @@ def test_settings_out_of_range(lg_k):
 
 
 def test_seed_out_of_range():
-    without_hash = next(seed for seed in range(2**20) if lines.seed_hash(seed) == 0)
+    without_hash = next(seed for seed in range(2**20) if model_distinct.seed_hash(seed) == 0)
     for seed in (-1, 2**64, without_hash):
         for make in (lambda: ThetaSketch(seed=seed), lambda: ThetaUnion(seed=seed), lambda: ThetaIntersection(seed=seed)):
             with pytest.raises(InvalidArgumentError):
@@ -194,14 +194,14 @@ def test_what_a_sketch_answers():
     empty, exact, rough = ThetaSketch(), sketch_of(range(100)), sketch_of(range(100000))
     assert empty.is_empty and empty.is_exact and len(empty) == 0 and empty.estimate == 0.0 and empty.bounds() == (0, 0)
     assert not exact.is_empty and exact.is_exact and exact.estimate == 100.0 and exact.bounds(3) == (100, 100)
-    assert exact.hashes() == sorted(lines.murmur(n.to_bytes(8, "little"), DEFAULT_SEED) >> 1 for n in range(100))
+    assert exact.hashes() == sorted(model_distinct.murmur(n.to_bytes(8, "little"), DEFAULT_SEED) >> 1 for n in range(100))
     hashes, theta = value_of(range(100000))
     assert rough.theta == theta and len(rough) == 4096 == len(hashes) and not rough.is_exact
     assert rough.estimate_fraction == Fraction(4096 * MAX_THETA, theta) and rough.estimate == 4096 * MAX_THETA / theta
     assert rough.estimate_text() == str(4096 * MAX_THETA // theta)
     assert rough.estimate_text(3) == f"{4096 * MAX_THETA * 1000 // theta / 1000:.3f}"
     for deviations in (1, 2, 3):
-        assert rough.bounds(deviations) == lines.count_bounds(deviations, 4096, theta)
+        assert rough.bounds(deviations) == model_distinct.count_bounds(deviations, 4096, theta)
     assert rough.bounds() == rough.bounds(2) and rough.compact().bounds() == rough.bounds()
     assert repr(exact) == "<ThetaSketch of 100 keys, lg_k 12>" and "about" in repr(rough.compact())
     assert exact._repr_html_() == (
@@ -251,7 +251,7 @@ def test_intersection():
     meet.update(sketch_of(range(3000)))
     meet.update(sketch_of(range(1000, 4000)).to_bytes())
     meet.update(sketch_of(range(2000, 9000)).compact())
-    wanted = lines.meet([value_of(range(3000)), value_of(range(1000, 4000)), value_of(range(2000, 9000))])
+    wanted = model_distinct.meet([value_of(range(3000)), value_of(range(1000, 4000)), value_of(range(2000, 9000))])
     assert meet.result().to_bytes() == image_of(wanted) and 900 < meet.result().estimate < 1100
     with pytest.raises(InvalidDataError):
         meet.update(bytes(8))

@@ -410,7 +410,7 @@ const LETTERS: [&str; 2] = [
 /// Three keys with amounts, whose total is above 64 bits.
 const AMOUNTS: [&str; 2] = ["ann;5\nbob;7", "bob;0\n;1\nann;18446744073709551610"];
 
-/// Images of three hashes below a theta of 5 * 10^18, and of two below one of 4 * 10^18, by `checks/answers.py`.
+/// Images of three hashes below a theta of 5 * 10^18, and of two below one of 4 * 10^18, by `checks/expected_answers.py`.
 const ESTIMATING: [&str; 2] = [
     "03030300001acc9303000000000000000000f44482916345000064a7b3b6e00d0000c84e676dc11b000042712836733e",
     "03030300001acc9302000000000000000000909dceda82370000c84e676dc11b00002cf61a24a229",
@@ -434,7 +434,7 @@ const GROUPS: [&str; 2] = [
 /// Users, each with days.
 const DAYS: [&str; 2] = ["x;1\ny;1\nx;2\ny;2", "z;1\ny;3\ny;3\n;5"];
 
-/// Each command; `tests/distinct` has its options. What is to be written of `ESTIMATING` is by `checks/answers.py`, and of
+/// Each command; `tests/distinct` has its options. What is to be written of `ESTIMATING` is by `checks/expected_answers.py`, and of
 /// the others by a program in Python that knows the public definition of the hash and the formula of bounds.
 #[test]
 fn writes_each_answer(rt: HostRuntime) -> Result<(), Fail> {

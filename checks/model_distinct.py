@@ -1,0 +1,951 @@
+#!/usr/bin/env python3
+"""What the program `distinct` writes, computed from docs/use/FORMATS.md, docs/verify/SPECIFICATION.md and docs/use/DISTINCT.md alone.
+
+checks/model_distinct.py COMMAND [OPTION..] [FILE..] writes it. checks/model_distinct.py --check FOLDER compares it with the cases of a folder,
+such as tests/distinct: what is written, to standard output and to files, and the status; if a case has messages, also
+the message, if a file's contents are at fault. It doesn't know the messages of wrong arguments and of the system, nor the
+texts of --help and --version. It shares no code with the program.
+"""
+import collections
+import json
+import math
+import os
+import re
+import struct
+import sys
+
+sys.dont_write_bytecode = True
+import distinct_cases
+
+MAX_THETA = 2**63 - 1
+DEFAULT_SEED = 9001
+M64 = 2**64 - 1
+
+LINES = "-C --lg-k --field --separator --seed --seed-file --files0-from --progress "
+OPTIONS = {
+    "count": LINES + "--by --sort --bounds --tsv --json",
+    "sketch": LINES + "--by --value --visits --hex --output --output-dir",
+    "union": "-C --lg-k --seed --seed-file --files0-from --expect --hex --groups --sums --output",
+    "meet": "-C --seed --seed-file --files0-from --expect --hex --output",
+    "minus": "-C --seed --seed-file --hex --output",
+    "show": "-C --seed --seed-file --files0-from --hex --bounds --tsv --json",
+    "eval": "-C --lg-k --seed --seed-file --keys --sums --field --separator --bounds --tsv --json --hex --output",
+    "visits": "-C --lg-k --field --separator --sums --hex --seed --seed-file --files0-from --bounds --tsv --json",
+    "sum": "-C --value --lg-k --field --separator --seed --seed-file --files0-from --tsv --json",
+}
+FLAGS = ("--hex", "--groups", "--sums", "--visits", "--progress", "--keys")
+FAMILIES = (
+    "Alpha sketches,update sketches,theta sketches,unions,intersections,differences,HLL sketches,quantiles sketches,"
+    "tuple sketches,frequency sketches,reservoirs,unions of reservoirs,VarOpt sketches,unions of VarOpt sketches,KLL sketches,"
+    "CPC sketches,REQ sketches,count-min sketches,EBPPS sketches,t-digests,Bloom filters"
+).split(",")
+RANGES = {"--lg-k": (4, 26), "--seed": (0, M64)} | {it: (1, 2**32 - 1) for it in ("--field", "--by", "--value", "--expect")}
+
+
+class Fault(Exception):
+    """Wrong arguments: status 2."""
+
+
+class Failure(Exception):
+    """What a file has is at fault: status 1 and this message."""
+
+
+class Uncomputed(Exception):
+    """What is not known here: a text of help, or what the system says."""
+
+
+# The hash, and sketches as None, if empty, or their hashes and their theta. Sketches of sums have the sum of each hash.
+
+
+def rotl(x, n):
+    return (x << n | x >> (64 - n)) & M64
+
+
+def first_mixing(k):
+    return rotl(k * 0x87C37B91114253D5 & M64, 31) * 0x4CF5AD432745937F & M64
+
+
+def second_mixing(k):
+    return rotl(k * 0x4CF5AD432745937F & M64, 33) * 0x87C37B91114253D5 & M64
+
+
+def spread(x):
+    for factor in (0xFF51AFD7ED558CCD, 0xC4CEB9FE1A85EC53):
+        x = (x ^ x >> 33) * factor & M64
+    return x ^ x >> 33
+
+
+def murmur128(data, seed):
+    """Both halves of MurmurHash3 x64 128."""
+    h1 = h2 = seed
+    whole = len(data) // 16 * 16
+    for place in range(0, whole, 16):
+        k1, k2 = struct.unpack_from("<QQ", data, place)
+        h1 = (rotl(h1 ^ first_mixing(k1), 27) + h2) * 5 + 0x52DCE729 & M64
+        h2 = (rotl(h2 ^ second_mixing(k2), 31) + h1) * 5 + 0x38495AB5 & M64
+    k1, k2 = struct.unpack("<QQ", data[whole:].ljust(16, b"\0"))
+    h1 ^= first_mixing(k1) ^ len(data)
+    h2 ^= second_mixing(k2) ^ len(data)
+    h1 = h1 + h2 & M64
+    h2 = h2 + h1 & M64
+    h1, h2 = spread(h1), spread(h2)
+    h1 = h1 + h2 & M64
+    return h1, h2 + h1 & M64
+
+
+def murmur(data, seed):
+    """Its first half."""
+    return murmur128(data, seed)[0]
+
+
+def seed_hash(seed):
+    return murmur(struct.pack("<Q", seed), 0) & 0xFFFF
+
+
+def key_of(line, field, separator):
+    """A line's key, as `cut -f` has it."""
+    if field is None or separator not in line:
+        return line
+    return dict(enumerate(line.split(separator), 1)).get(field, b"")
+
+
+def lines_of(text):
+    lines = text.split(b"\n")
+    return lines if lines[-1] else lines[:-1]
+
+
+def cut(k, hashes, theta):
+    """The hashes below theta; of more than k the k smallest, and theta is then the next one."""
+    kept = sorted(h for h in hashes if 0 < h < theta)
+    return (set(kept), theta) if len(kept) <= k else (set(kept[:k]), kept[k])
+
+
+def groups_of(texts, options):
+    """The lines of each group as one text, by the group's name, in ascending order."""
+    groups = {}
+    for line in (line for text in texts for line in lines_of(text)):
+        groups.setdefault(key_of(line, options["--by"], options["--separator"]), []).append(line + b"\n")
+    return {name: b"".join(groups[name]) for name in sorted(groups)}
+
+
+def sketch_of(texts, options, seed):
+    keys = {key_of(line, options["--field"], options["--separator"]) for text in texts for line in lines_of(text)}
+    return cut(2 ** options["--lg-k"], {murmur(key, seed) >> 1 for key in keys}, MAX_THETA) if keys else None
+
+
+def visits_of(texts, options, seed):
+    """The sketch of the lines of texts, and how often each of its hashes comes."""
+    sketch = sketch_of(texts, options, seed)
+    lines = [line for text in texts for line in lines_of(text)]
+    hashes = [murmur(key_of(line, options["--field"], options["--separator"]), seed) >> 1 for line in lines]
+    counts = collections.Counter(hashes)
+    return sketch, [counts[it] for it in (sketch[0] if sketch else [])]
+
+
+def sums_of(texts, options, seed):
+    """The sketch of the lines of texts, each with its name, with the sum of the values of each of its hashes; of 1 without --value."""
+    sums = collections.Counter()
+    for name, text in texts:
+        for number, line in enumerate(lines_of(text), 1):
+            value = key_of(line, options["--value"], options["--separator"]) if options.get("--value") else b"1"
+            if not re.fullmatch(rb"[0-9]+", value) or int(value) > M64:
+                raise Failure(f"{escaped(called(name))}: line {number}: its value is not a whole number up to {M64}: check --value and --separator")
+            key = murmur(key_of(line, options["--field"], options["--separator"]), seed) >> 1
+            sums[key] += int(value)
+            if sums[key] > M64:
+                raise Failure(f"{escaped(called(name))}: line {number}: the sum of its key is above {M64}")
+    sketch = sketch_of([text for _, text in texts], options, seed)
+    return sketch and ({it: sums[it] for it in sketch[0]}, sketch[1])
+
+
+def unite_sums(k, parts):
+    """The union of sketches of sums, and the first part with which a sum is above 64 bits; one of the two is None."""
+    theta, sums = MAX_THETA, {}
+    for place, part in enumerate(parts):
+        part_sums, part_theta = part or ({}, MAX_THETA)
+        theta = min(theta, part_theta)
+        for it, number in part_sums.items():
+            sums[it] = sums.get(it, 0) + number
+        hashes, theta = cut(k, sums, theta)
+        sums = {it: sums[it] for it in hashes}
+        if any(it > M64 for it in sums.values()):
+            return None, place
+    return ((sums, theta) if any(parts) else None), None
+
+
+def unite(k, parts):
+    parts = [part for part in parts if part]
+    if not parts:
+        return None
+    return cut(k, set().union(*(hashes for hashes, _ in parts)), min(theta for _, theta in parts))
+
+
+def meet(parts):
+    met = parts[0]
+    for part in parts[1:]:
+        if not met or not part:
+            return None
+        theta = min(met[1], part[1])
+        shared = met[0] & part[0]
+        if met[0] and part[0] and not shared and theta == MAX_THETA:
+            return None
+        met = ({h for h in shared if h < theta}, theta)
+    return met
+
+
+def minus(first, second):
+    if not first or not second:
+        return first
+    theta = min(first[1], second[1])
+    kept = {h for h in first[0] - second[0] if h < theta}
+    return (kept, theta) if kept or theta < MAX_THETA else None
+
+
+# Images.
+
+
+def image_of(sketch, own_hash, of_sums=False):
+    """The image of an ordered sketch, a theta sketch or one of sums."""
+    if not sketch:
+        return bytes.fromhex("010309 0100 1e 0000" if of_sums else "010303 0000 1e 0000")
+    hashes, theta = sketch
+    longs = 3 if theta < MAX_THETA else 1 if len(hashes) == 1 else 2
+    head = struct.pack("<BBBHBH", longs, 3, 9 if of_sums else 3, 1 if of_sums else 0, 0x1A, own_hash)
+    head += struct.pack("<II", len(hashes), 0) * (longs > 1) + struct.pack("<Q", theta) * (longs > 2)
+    if of_sums:
+        return head + b"".join(struct.pack("<QQ", it, hashes[it]) for it in sorted(hashes))
+    return head + b"".join(struct.pack("<Q", h) for h in sorted(hashes))
+
+
+def sums_length(image):
+    """The length of the image of sums that the bytes begin, or None if its preamble isn't known or isn't whole."""
+    if len(image) < 8 or not 1 <= image[0] <= 3 or image[1] not in (1, 3):
+        return None
+    start = 8 if image[5] & 4 else 8 * image[0]
+    if len(image) < start:
+        return None
+    return start + 16 * (0 if image[5] & 4 else 1 if image[0] == 1 else struct.unpack_from("<I", image, 8)[0])
+
+
+def sums_flaw_of(image, own_hash):
+    """Why bytes are not one image of sums that is read: the first reason."""
+    length = sums_length(image)
+    if len(image) >= 16 and re.fullmatch(rb"[0-9a-fA-F]{16}", image[:16]):
+        return "is hexadecimal text: pass --hex"
+    if len(image) < 8:
+        return "is not an image of sums"
+    if image[2] != 9:
+        named = f", the family of {FAMILIES[image[2] - 1]}" if 1 <= image[2] <= len(FAMILIES) else ""
+        return f"is not an image of sums (the third byte is {image[2]}{named}, not 9)"
+    if image[1] not in (1, 3):
+        return f"is of version {image[1]}; versions 1 and 3 are read: write it in version 3"
+    if image[5] & 1:
+        return "is in big-endian order: write it in little-endian order"
+    if not image[5] & 4 and struct.unpack_from("<H", image, 6)[0] != own_hash:
+        return "was made with another seed: pass that --seed"
+    if not 1 <= image[0] <= 3 or image[3] not in (1, 5) or length == len(image):
+        return "is damaged (its preamble, sketch type, theta or hashes are not valid): copy or make it again"
+    if length is None or length > len(image):
+        return "is cut short: copy or make it again"
+    return "has bytes after its image: a file has one image, or with --hex one per line"
+
+
+def sums_of_image(image, own_hash):
+    """The sketch of sums that one image is read as."""
+    if sums_length(image) != len(image) or image[2] != 9 or image[3] not in (1, 5):
+        raise Failure(sums_flaw_of(image, own_hash))
+    if image[5] & 4:
+        return None
+    theta = struct.unpack_from("<Q", image, 16)[0] if image[0] == 3 else MAX_THETA
+    entries = list(struct.iter_unpack("<QQ", image[8 * image[0] :]))
+    hashes = [it for it, _ in entries]
+    has_theta = 1 <= theta <= MAX_THETA and all(0 < it < theta for it in hashes)
+    has_order = len(set(hashes)) == len(hashes) and (not image[5] & 16 or hashes == sorted(hashes))
+    if not (has_theta and has_order and struct.unpack_from("<H", image, 6)[0] == own_hash):
+        raise Failure(sums_flaw_of(image, own_hash))
+    return dict(entries), theta
+
+
+def is_flagged_empty(image):
+    """Whether its first eight bytes alone are the image of the empty sketch."""
+    return image[1] == 3 and bool(image[5] & 4) or image[1] == 2 and image[0] == 1
+
+
+def preamble_length(image):
+    return 8 if is_flagged_empty(image) else 24 if image[1] == 1 else 8 * image[0]
+
+
+def image_length(image):
+    """The length of the image that the bytes begin, or None if its preamble isn't known or isn't whole."""
+    if len(image) < 8 or not (1 <= image[0] <= 3 and 1 <= image[1] <= 3) or len(image) < preamble_length(image):
+        return None
+    if is_flagged_empty(image):
+        return 8
+    if image[1] == 3 and image[0] == 1:
+        return 16
+    return preamble_length(image) + 8 * struct.unpack_from("<I", image, 8)[0]
+
+
+def is_empty(image):
+    """Whether an image is read as the empty sketch: in versions 1 and 2 also one of no hash and the greatest theta."""
+    if is_flagged_empty(image):
+        return True
+    return image[1] < 3 and image_length(image) == preamble_length(image) and theta_of(image) == MAX_THETA
+
+
+def theta_of(image):
+    return struct.unpack_from("<Q", image, 16)[0] if preamble_length(image) == 24 else MAX_THETA
+
+
+def flaw_of(image, own_hash):
+    """Why bytes are not one image that is read: the first reason."""
+    length = image_length(image)
+    if len(image) >= 16 and re.fullmatch(rb"[0-9a-fA-F]{16}", image[:16]):
+        return "is hexadecimal text: pass --hex"
+    if len(image) < 8:
+        return "is not the image of a theta sketch"
+    if image[2] != 3:
+        named = f", the family of {FAMILIES[image[2] - 1]}" if 1 <= image[2] <= len(FAMILIES) else ""
+        return f"is not the image of a theta sketch (the third byte is {image[2]}{named}, not 3)"
+    if not 1 <= image[1] <= 3:
+        return f"is of version {image[1]}; versions 1 to 3 are read: write it in version 3, uncompressed"
+    if image[1] == 3 and image[5] & 1:
+        return "is in big-endian order: write it in little-endian order"
+    if image[1] > 1 and not is_empty(image) and struct.unpack_from("<H", image, 6)[0] != own_hash:
+        return "was made with another seed: pass that --seed"
+    if not 1 <= image[0] <= 3 or length == len(image):
+        return "is damaged (its preamble, theta or hashes are not valid): copy or make it again"
+    if length is None or length > len(image):
+        return "is cut short: copy or make it again"
+    return "has bytes after its image: a file has one image, or with --hex one per line"
+
+
+def sketch_of_image(image, own_hash):
+    """The sketch that one image is read as."""
+    length = image_length(image)
+    if length != len(image) or image[2] != 3:
+        raise Failure(flaw_of(image, own_hash))
+    if is_empty(image):
+        return None
+    theta = theta_of(image)
+    hashes = [it[0] for it in struct.iter_unpack("<Q", image[preamble_length(image) :])]
+    has_theta = 1 <= theta <= MAX_THETA and all(0 < h < theta for h in hashes)
+    has_order = len(set(hashes)) == len(hashes) and (image[1] == 3 and not image[5] & 16 or hashes == sorted(hashes))
+    has_seed = image[1] == 1 or struct.unpack_from("<H", image, 6)[0] == own_hash
+    if not (has_theta and has_order and has_seed):
+        raise Failure(flaw_of(image, own_hash))
+    return set(hashes), theta
+
+
+# What is printed.
+
+
+def ceil_sqrt(number):
+    return math.isqrt(number - 1) + 1 if number else 0
+
+
+def count_bounds(z, retained, theta):
+    """The ends of the Wilson score interval (docs/verify/SPECIFICATION.md, "Bounds of a count")."""
+    spread_of_z = z * z * (MAX_THETA - theta)
+    scaled = retained * MAX_THETA
+    reach = ceil_sqrt(spread_of_z) * ceil_sqrt(spread_of_z + 4 * scaled)
+    middle = 2 * scaled + spread_of_z
+    return max(max(middle - reach, 0) // (2 * theta), retained), -(-(middle + reach) // (2 * theta))
+
+
+def report_of(sketch, z):
+    hashes, theta = sketch or (set(), MAX_THETA)
+    lower, upper = count_bounds(z, len(hashes), theta)
+    estimate = (2 * len(hashes) * MAX_THETA + theta) // (2 * theta)
+    return dict(estimate=estimate, lower=lower, upper=upper, exact=theta == MAX_THETA, retained=len(hashes), theta=theta)
+
+
+def ranges_of(sketch, counts, z):
+    """The ends of each range of counts, and the report of the hashes in it: 1, 2, 3 to 4, and so on up to the greatest."""
+    rows, least, greatest = [], 1, 1
+    while least <= max(counts, default=0):
+        retained = sum(least <= it <= greatest for it in counts)
+        row = report_of((set(range(retained)), sketch[1]), z)
+        rows.append(({"from": least, "to": greatest}, row))
+        least, greatest = greatest + 1, 2 * greatest
+    return rows
+
+
+def printed_ranges(rows, options):
+    """The answer of `visits` on ranges and their reports."""
+    if options["form"] == "--tsv":
+        table = [["from", "to", *report_of(None, 2)]] + [[json.dumps(it) for it in (ends | row).values()] for ends, row in rows]
+        return "".join("\t".join(it) + "\n" for it in table)
+    if options["form"] == "--json":
+        return "".join(json.dumps(ends | row, separators=(",", ":")) + "\n" for ends, row in rows)
+    shown = ["estimate", "lower", "upper"] if options["--bounds"] else ["estimate"]
+    names = [" to ".join(str(it) for it in sorted(set(ends.values()))) for ends, _ in rows]
+    return "".join(f"{name}: {' '.join(str(row[it]) for it in shown)}\n" for name, (_, row) in zip(names, rows))
+
+
+def printed_total(sketch, options):
+    """The answer of `sum` on a sketch of sums."""
+    sums, theta = sketch or ({}, MAX_THETA)
+    total = (2 * sum(sums.values()) * MAX_THETA + theta) // (2 * theta)
+    row = dict(total=total, exact=theta == MAX_THETA, retained=len(sums), theta=theta)
+    if options["form"] == "--tsv":
+        return "\t".join(row) + "\n" + "\t".join(json.dumps(it) for it in row.values()) + "\n"
+    return json.dumps(row, separators=(",", ":")) + "\n" if options["form"] else f"{total}\n"
+
+
+def escaped(name):
+    """A name whose control characters are escaped."""
+    short = {"\t": r"\t", "\r": r"\r", "\n": r"\n"}
+    return re.sub(r"[\0-\x1f\x7f-\x9f]", lambda it: short.get(it[0], r"\u{%x}" % ord(it[0])), name)
+
+
+def json_string(name):
+    name = re.sub(r'["\\]', lambda it: "\\" + it[0], name)
+    return '"' + re.sub(r"[\0-\x1f]", lambda it: r"\u%04x" % ord(it[0]), name) + '"'
+
+
+def printed_groups(rows, options):
+    """The answer of `count` on groups, each a name in bytes and a report."""
+    if options["form"]:
+        return printed([(name.decode(errors="replace"), row) for name, row in rows], options, "show").encode()
+    return b"".join(name + b"\t" + printed([(None, row)], options, "count").encode() for name, row in rows)
+
+
+def printed(rows, options, command):
+    """The answer of `count` or `show` on reports, each with its name or None."""
+    if options["form"] == "--tsv":
+        names = ["name"] * (command != "count") + list(report_of(None, 2))
+        table = [[escaped(name or "")] * (name is not None) + [json.dumps(it) for it in row.values()] for name, row in rows]
+        return "".join("\t".join(it) + "\n" for it in [names, *table])
+    if options["form"] == "--json":
+        named = [[f'"name":{json_string(name or "")}'] * (name is not None) for name, _ in rows]
+        pairs = [[f'"{key}":{json.dumps(it)}' for key, it in row.items()] for _, row in rows]
+        return "".join("{" + ",".join(name + pair) + "}\n" for name, pair in zip(named, pairs))
+    if command == "count":
+        shown = ["estimate", "lower", "upper"] if options["--bounds"] else ["estimate"]
+        return "".join(" ".join(str(row[it]) for it in shown) + "\n" for _, row in rows)
+    line = "{}: {estimate} {kind}, retained {retained}, theta {theta}\n"
+    kinds = ["exact" if row["exact"] else "estimated, from {lower} to {upper}".format(**row) for _, row in rows]
+    return "".join(line.format(escaped(name), kind=kind, **row) for (name, row), kind in zip(rows, kinds))
+
+
+# Arguments.
+
+
+def number_of(option, value):
+    least, greatest = RANGES[option]
+    if not re.fullmatch(r"[0-9]+", value) or not least <= int(value) <= greatest:
+        raise Fault(f"{option} {value}")
+    if option == "--seed" and seed_hash(int(value)) == 0:
+        raise Fault("a seed whose hash is 0")
+    return int(value)
+
+
+def set_option(command, options, words):
+    """Sets the option that the words begin with; takes its words off."""
+    option, has_value, value = words.pop(0).partition("=")
+    if option not in OPTIONS[command].split():
+        raise Fault(f"no option {option}")
+    if option in FLAGS or option in ("--tsv", "--json", "--bounds"):
+        if has_value and (option != "--bounds" or value not in "1 2 3".split()):
+            raise Fault(f"a value of {option}")
+        if option == "--bounds":
+            options[option] = int(value or 2)
+        else:
+            options[option if option in FLAGS else "form"] = option
+        return
+    if not has_value and not words:
+        raise Fault(f"no value of {option}")
+    value = value if has_value else words.pop(0)
+    if option == "--separator" and len(value.encode()) != 1:
+        raise Fault("a separator of another length than 1")
+    if option == "--sort" and value not in ("name", "estimate"):
+        raise Fault("another order than name and estimate")
+    if option in ("--seed", "--seed-file"):
+        options["seed"] = option, value if option == "--seed-file" else number_of(option, value)
+    else:
+        options[option] = number_of(option, value) if option in RANGES else value
+
+
+def tokens_of(text):
+    """The tokens of an expression: each is a kind and, of a name, the name."""
+    tokens, place = [], 0
+    while text[place:].strip(" \t\n"):
+        it = re.compile(r'[ \t\n]*(?:"([^"]+)"|([()&+|])|([^ \t\n()&+|"]+))').match(text, place)
+        if not it:
+            raise Fault("a quote")
+        kind = "name" if it[1] or it[3] not in (None, "-") else it[2] or "-"
+        tokens.append((kind, it[1] or it[3]))
+        place = it.end()
+    return tokens
+
+
+def operand(tokens, levels):
+    """The steps of the name or of the group that tokens begin with."""
+    kind, name = tokens.pop(0) if tokens else ("end", None)
+    if kind == "name":
+        return [("name", name)]
+    if kind != "(" or levels == 64:
+        raise Fault("no operand")
+    steps = steps_in(tokens, levels + 1, ["+", "|", "-"])
+    if not tokens or tokens.pop(0)[0] != ")":
+        raise Fault("an open parenthesis")
+    return steps
+
+
+def steps_in(tokens, levels, signs):
+    """The steps of operands between these signs; & binds tighter than the others."""
+    def part():
+        return operand(tokens, levels) if signs == ["&"] else steps_in(tokens, levels, ["&"])
+
+    steps = part()
+    while tokens and tokens[0][0] in signs:
+        sign = tokens.pop(0)[0]
+        steps += part() + [(sign, None)]
+    return steps
+
+
+def steps_of(text):
+    """The steps of an expression in postfix order: names, and the signs of operators."""
+    tokens = tokens_of(text)
+    steps = steps_in(tokens, 0, ["+", "|", "-"])
+    if tokens:
+        raise Fault("something behind the expression")
+    return steps
+
+
+def names_of(steps):
+    """The names of an expression, each once."""
+    return list(dict.fromkeys(name for kind, name in steps if kind == "name"))
+
+
+def two_sums(kind, first, second, k):
+    """Two sketches of sums combined. A sum above 64 bits is an error, if the key is below both thetas."""
+    (sums, theta), (more, other) = first or ({}, MAX_THETA), second or ({}, MAX_THETA)
+    if kind != "-" and any(it in more and sums[it] + more[it] > M64 for it in sums if it < min(theta, other)):
+        raise Failure("above 64 bits")
+    parts = [part and (set(part[0]), part[1]) for part in (first, second)]
+    met = meet(parts) if kind == "&" else minus(*parts) if kind == "-" else unite(k, parts)
+    return met and ({it: sums.get(it, 0) + (more.get(it, 0) if kind != "-" else 0) for it in met[0]}, met[1])
+
+
+def evaluated(steps, sketches, k, of_sums=False):
+    """The sketch of an expression over the sketches of its names."""
+    stack = []
+    for kind, name in steps:
+        if kind == "name":
+            stack.append(sketches[name])
+            continue
+        second, first = stack.pop(), stack.pop()
+        if of_sums:
+            stack.append(two_sums(kind, first, second, k))
+            continue
+        stack.append(meet([first, second]) if kind == "&" else minus(first, second) if kind == "-" else unite(k, [first, second]))
+    return stack.pop()
+
+
+def read_arguments(words):
+    """The command, its options and its files. The folders before the command and that among the options are its `dirs`."""
+    words, dirs = list(words), []
+    while words and words[0].partition("=")[0] == "-C":
+        front = {}
+        set_option("count", front, words)
+        dirs.append(front["-C"])
+    if words and words[0] in ("--help", "-h", "--version", "-V"):
+        raise Uncomputed(words[0])
+    if not words or words[0] not in OPTIONS:
+        raise Fault("no command")
+    command = words.pop(0)
+    options = {"--lg-k": 12, "seed": ("--seed", DEFAULT_SEED), "form": None}
+    ended = False
+    while words and words[0].startswith("-") and words[0] != "-" and not ended:
+        if words[0] in ("--help", "-h"):
+            raise Uncomputed(f"{command} --help")
+        ended = words[0] == "--" and bool(words.pop(0))
+        if not ended:
+            set_option(command, options, words)
+    if not ended and any(it.startswith("-") and it != "-" for it in words):
+        raise Fault("an option behind a file")
+    if command == "eval" and len(words) != 1:
+        raise Fault("not one expression")
+    if command == "eval" and "--field" in options and "--keys" not in options:
+        raise Fault("--field without --keys")
+    if command == "sum" and "--value" not in options:
+        raise Fault("sum without --value")
+    if "--separator" in options and not {"--field", "--by", "--value"} & options.keys():
+        raise Fault("--separator without --field, --by and --value")
+    if {"--sums", "--keys"} <= options.keys():
+        raise Fault("--sums and --keys")
+    if {"--value", "--visits"} <= options.keys():
+        raise Fault("--value and --visits")
+    if command == "sketch" and {"--value", "--visits"} & options.keys() and {"--by", "--progress"} & options.keys():
+        raise Fault("--value or --visits with --by or --progress")
+    if command == "visits" and "--hex" in options and "--sums" not in options:
+        raise Fault("visits --hex without --sums")
+    if "--sums" in options and ({"--groups", "--field"} & options.keys() or command == "eval" and "--bounds" in options):
+        raise Fault("--sums with --groups, --field or eval --bounds")
+    if command == "sketch" and "--by" in options and "--hex" not in options and "--output-dir" not in options:
+        raise Fault("--by without --hex and without --output-dir")
+    if "--sort" in options and "--by" not in options:
+        raise Fault("--sort without --by")
+    if "--groups" in options and ("--hex" not in options or "--expect" in options):
+        raise Fault("--groups without --hex or with --expect")
+    if "--output-dir" in options and ("--by" not in options or "--output" in options):
+        raise Fault("--output-dir without --by or with --output")
+    if "--files0-from" in options and words:
+        raise Fault("a list and files")
+    if command in ("count", "sketch", "visits", "sum") and not words and not {"--files0-from", "--sums"} & options.keys():
+        words = ["-"]
+    read = set(names_of(steps_of(words[0]))) if command == "eval" else words
+    if [options["seed"][1], options.get("--files0-from"), *read].count("-") > 1:
+        raise Fault("standard input twice")
+    for option in ("--field", "--by", "--sort", "--bounds", "--hex", "--groups", "--sums", "--keys", "--output", "--output-dir", "--expect"):
+        options.setdefault(option)
+    options["--separator"] = options.get("--separator", "\t").encode()
+    options["dirs"] = dirs + ([options["-C"]] if "-C" in options else [])
+    return command, options, words
+
+
+# The commands, over the files of a table from names to bytes.
+
+
+def text_of(files, name):
+    if name not in files:
+        raise Uncomputed(f"the file {name}")
+    return files[name]
+
+
+def called(name):
+    return "standard input" if name == "-" else name
+
+
+def images_in(files, names, hex_lines):
+    """The name in messages, the name in answers, and the bytes of each image, in turn."""
+    for name in names:
+        text = text_of(files, name)
+        shown = escaped(called(name))
+        if not hex_lines:
+            yield f"{shown}: ", called(name), text
+            continue
+        if not text:
+            raise Failure(f"{shown}: is empty: recreate it, or omit it")
+        for number, line in enumerate(lines_of(text), 1):
+            digits = line.strip(b" \t\r\f")
+            if not re.fullmatch(rb"([0-9a-fA-F]{2})*", digits):
+                raise Failure(f"{shown}: line {number} is not hexadecimal")
+            yield f"{shown}: line {number} ", called(name), bytes.fromhex(digits.decode())
+
+
+def advice(command, image, of_sums):
+    """What a message adds for a file that may be one of lines: short, or its third byte is no family, or a tab, an LF, a CR or of gzip."""
+    own = 9 if of_sums else 3
+    if len(image) >= 8 and (image[2] == own or image[2] not in (8, 9, 10, 13) and 1 <= image[2] <= len(FAMILIES)):
+        return ""
+    if len(image) >= 8 and image[2] == 9:
+        read = "; union --sums, eval --sums and visits --sums read images of sums, count and sketch lines"
+        return "; pass --sums for images of sums, --keys for lines" if command == "eval" else read
+    if of_sums:
+        return "; visits without --sums reads lines" if command == "visits" else "; sketch --value reads lines"
+    return "; pass --keys if the expression's files have lines" if command == "eval" else "; count or sketch reads lines"
+
+
+def sketches_in(command, files, names, hex_lines, own_hash, of_sums=False, places=None):
+    """The name and the sketch of each image. Where it is goes to places."""
+    for place, name, image in images_in(files, names, hex_lines):
+        try:
+            if places is not None:
+                places.append(place)
+            yield name, (sums_of_image if of_sums else sketch_of_image)(image, own_hash)
+        except Failure as flaw:
+            added = "" if hex_lines or "hexadecimal" in str(flaw) else advice(command, image, of_sums)
+            raise Failure(f"{place}{flaw}{added}") from None
+
+
+def seed_of(files, options):
+    option, value = options["seed"]
+    if option == "--seed":
+        return value
+    try:
+        return number_of("--seed", text_of(files, value).decode().strip(" \t\n\f\r"))
+    except (Fault, UnicodeDecodeError):
+        flaw = "does not contain a valid seed (a number below 2^64 whose seed hash is not 0)"
+        raise Failure(f"{escaped(called(value))}: {flaw}") from None
+
+
+def combined(command, sketches, options, messages):
+    """What `union`, `meet` or `minus` makes of images."""
+    if command == "minus" and len(sketches) != 2:
+        raise Fault("not two images")
+    if options["--expect"] not in (None, len(sketches)):
+        raise Failure(f"{len(sketches)} images found, {options['--expect']} expected: check the files or --expect")
+    parts = [part for _, part in sketches]
+    if command == "union":
+        lg_k = options["--lg-k"]
+        most, name = max((len(part[0]) if part else 0, -place, name) for place, (name, part) in enumerate(sketches))[::2]
+        if most > 2**lg_k:
+            less = "the union is less exact than its images; pass a greater --lg-k"
+            messages.append(f"warning: {name} retains {most} hashes, and --lg-k {lg_k} keeps {2**lg_k}: {less}")
+        if not options["--sums"]:
+            return unite(2**lg_k, parts)
+        return unite_sums(2**lg_k, parts)[0]
+    sketch = meet(parts) if command == "meet" else minus(*parts)
+    report = report_of(sketch, 2)
+    if not report["exact"]:
+        messages.append("about {estimate} lines, from {lower} to {upper}".format(**report))
+    return sketch
+
+
+def group_line(name, image):
+    return name + b"\t" + image.hex().encode() + b"\n"
+
+
+def file_of(folder, name):
+    """The path of the file of a group."""
+    plain = b"abcdefghijklmnopqrstuvwxyzABCDEFGHIJKLMNOPQRSTUVWXYZ0123456789-._"
+    return f"{folder}/" + ("".join(chr(it) if it in plain else f"%{it:02x}" for it in name) or "%") + ".theta"
+
+
+def united_groups(files, names, options, own_hash, messages):
+    """The name and the union of the images of each group, in ascending order."""
+    groups, most, lg_k = {}, 0, options["--lg-k"]
+    for name in names:
+        for number, line in enumerate(lines_of(text_of(files, name)), 1):
+            place = f"{escaped(called(name))}: line {number}"
+            group, tab, digits = line.rpartition(b"\t")
+            if not tab:
+                raise Failure(f"{place} has no tab between the name of a group and its image")
+            if not re.fullmatch(rb"([0-9a-fA-F]{2})*", digits):
+                raise Failure(f"{place} is not hexadecimal")
+            try:
+                sketch = sketch_of_image(bytes.fromhex(digits.decode()), own_hash)
+            except Failure as flaw:
+                raise Failure(f"{place} {flaw}") from None
+            groups.setdefault(group, []).append(sketch)
+            most = max(most, len(sketch[0]) if sketch else 0)
+    if most > 2**lg_k:
+        less = "the union is less exact than its images; pass a greater --lg-k"
+        messages.append(f"warning: an image retains {most} hashes, and --lg-k {lg_k} keeps {2**lg_k}: {less}")
+    return [(name, unite(2**lg_k, groups[name])) for name in sorted(groups)]
+
+
+def written(answer, files, options):
+    """The answer, or nothing if it is written to the file that `--output` names."""
+    if options["--output"] is None:
+        return answer
+    files[options["--output"]] = answer
+    return b""
+
+
+def run(words, files, messages):
+    """What the program writes to standard output. It changes the files that `--output` and `--output-dir` name."""
+    command, options, names = read_arguments(words)
+    for dir in options["dirs"]:
+        files = InFolder(files, dir)
+    hex_lines = options["--hex"]
+    if command == "minus" and not hex_lines and len(names) != 2:
+        raise Fault("not two files")
+    reads_images = command not in ("count", "sketch", "eval", "visits", "sum") or command == "visits" and options["--sums"]
+    if reads_images and not names and "--files0-from" not in options:
+        raise Fault("no image")
+    seed = seed_of(files, options)
+    if "--files0-from" in options:
+        listed = text_of(files, options["--files0-from"])
+        if b"\n" in listed and b"\0" not in listed:
+            raise Failure(f"{escaped(called(options['--files0-from']))}: has no NUL byte; each name ends in one (find -print0)")
+        listed = listed.removesuffix(b"\0").split(b"\0") if listed else []
+        for number, name in enumerate(listed, 1):
+            if not name or name.decode(errors="ignore").encode() != name:
+                raise Failure(f"{escaped(called(options['--files0-from']))}: name {number} is empty or not UTF-8 text")
+        names = [name.decode() for name in listed]
+    if command == "visits" and not options["--sums"]:
+        sketch, counts = visits_of([text_of(files, name) for name in names], options, seed)
+        return printed_ranges(ranges_of(sketch, counts, options["--bounds"] or 2), options).encode()
+    if command == "sum":
+        return printed_total(sums_of([(name, text_of(files, name)) for name in names], options, seed), options).encode()
+    if command == "sketch" and (options.get("--value") or options.get("--visits")):
+        image = image_of(sums_of([(name, text_of(files, name)) for name in names], options, seed), seed_hash(seed), True)
+        return written(image.hex().encode() + b"\n" if hex_lines else image, files, options)
+    if options["--groups"]:
+        groups = united_groups(files, names, options, seed_hash(seed), messages)
+        return written(b"".join(group_line(name, image_of(it, seed_hash(seed))) for name, it in groups), files, options)
+    z = options["--bounds"] or 2
+    if options["--by"]:
+        groups = groups_of([text_of(files, name) for name in names], options)
+        rows = [(name, sketch_of([text], options, seed)) for name, text in groups.items()]
+        if command == "count":
+            reports = [(name, report_of(it, z)) for name, it in rows]
+            if options["--sort"] == "estimate":
+                reports.sort(key=lambda row: -row[1]["estimate"])
+            return printed_groups(reports, options)
+        images = [(name, image_of(it, seed_hash(seed))) for name, it in rows]
+        if options["--output-dir"]:
+            for name, image in images:
+                files[file_of(options["--output-dir"], name)] = image.hex().encode() + b"\n" if hex_lines else image
+            return b""
+        return written(b"".join(group_line(name, image) for name, image in images), files, options)
+    if command in ("count", "sketch"):
+        sketch = sketch_of([text_of(files, name) for name in names], options, seed)
+        rows = [(None, sketch)]
+    elif command == "eval":
+        steps = steps_of(names[0])
+        of_sums = bool(options["--sums"])
+        if options["--keys"]:
+            sketches = {it: sketch_of([text_of(files, it)], options, seed) for it in names_of(steps)}
+        else:
+            found = [it for _, it in sketches_in(command, files, names_of(steps), hex_lines, seed_hash(seed), of_sums)]
+            if len(found) != len(names_of(steps)):
+                raise Failure(f"{len(found)} images found, {len(names_of(steps))} expected: with eval --hex each file has one line")
+            sketches = dict(zip(names_of(steps), found))
+        try:
+            sketch = evaluated(steps, sketches, 2 ** options["--lg-k"], of_sums)
+        except Failure:
+            raise Failure(f"eval: '{escaped(names[0])}': the sum of a key is above {M64}") from None
+        if of_sums and options["--output"] is None:
+            return printed_total(sketch, options).encode()
+        rows = [(names[0], sketch)]
+    else:
+        of_sums, places, rows = bool(options["--sums"]), [], []
+        for row in sketches_in(command, files, names, hex_lines, seed_hash(seed), of_sums, places):
+            rows.append(row)
+            if of_sums and unite_sums(2 ** options["--lg-k"], [part for _, part in rows])[1] is not None:
+                place = places[-1].rstrip(": ") if hex_lines else places[-1][:-2]
+                raise Failure(f"{place}: the sum of a key is above {M64} with this image")
+        if not rows:
+            raise Fault("no image")
+    if command in ("count", "show") or command == "eval" and options["--output"] is None:
+        return printed([(name, report_of(it, z)) for name, it in rows], options, command).encode()
+    if command == "visits":
+        sketch = combined("union", rows, options, messages)
+        counts = list(sketch[0].values()) if sketch else []
+        return printed_ranges(ranges_of(sketch, counts, options["--bounds"] or 2), options).encode()
+    if command not in ("sketch", "eval"):
+        sketch = combined(command, rows, options, messages)
+    image = image_of(sketch, seed_hash(seed), bool(options["--sums"]))
+    return written(image.hex().encode() + b"\n" if hex_lines else image, files, options)
+
+
+# The cases of a folder.
+
+
+def bytes_of(path):
+    if not os.path.exists(path):
+        return b""
+    with open(path, "rb") as file:
+        return file.read()
+
+
+def case_files(files):
+    """The files of the folder of a case, by the names that arguments have."""
+    return {"@" + name: text for name, text in (files or {}).items()}
+
+
+def wrong_in(case, data):
+    """What differs in a case, if anything. These are the files of the folder in which it runs."""
+    files = data | case_files(case.before) | {"-": case.input}
+    files |= {it.decode(): files["keys.theta"] for it in files["odd.list"].split(b"\0") if it}
+    status, answer, messages = 0, b"", []
+    if any(text in (case.messages or b"") for text in (b"(os error ", b": is a directory")):
+        raise Uncomputed("an error of the system")
+    try:
+        answer = run(case.arguments, files, messages)
+    except Fault:
+        status, messages = 2, None
+    except Failure as failure:
+        status, messages = 1, [str(failure)]
+    if any("/" in it for it in files if not it.startswith("@")):
+        raise Uncomputed("a file in another folder")
+    if status != case.status:
+        return "status"
+    if answer != case.output:
+        return "answer"
+    said = "".join(f"distinct: {it}\n" for it in messages or [])
+    if messages is not None and case.messages is not None and said.encode() != case.messages:
+        return "message"
+    after = {name: text for name, text in files.items() if name.startswith("@")}
+    if case.before is not None and after != case_files(case.after):
+        return "files"
+    return None
+
+
+def wrong_help(name, case):
+    """What is wrong with the text of help on a command: it names its options and no others, in lines of at most 100 bytes."""
+    command = name.rpartition("help_on_")[2]
+    text = case.output.decode()
+    named = set(re.findall(r"(?<!\S)-C|--[a-z0-9-]+", text)) - {"--help"}
+    options = set(OPTIONS.get(command, "").split())
+    long = [line for line in text.split("\n") if len(line.encode()) > 100]
+    differ = sorted(named ^ options) if command in OPTIONS else []
+    return [f"{name}: {it}" for it in long + differ]
+
+
+def check(folder):
+    wrong, uncomputed, number = [], [], 0
+    data = {it: bytes_of(os.path.join(folder, "data", it)) for it in os.listdir(os.path.join(folder, "data"))}
+    for name, case in distinct_cases.read(folder).items():
+        try:
+            differs = wrong_in(case, data)
+            number += 1
+            wrong += [f"{name}: another {differs}"] * (differs is not None)
+        except Uncomputed as reason:
+            wrong += wrong_help(name, case)
+            is_text = str(reason).endswith(("--help", "-h", "--version", "-V"))
+            kind = wrong if not is_text and not case.status else uncomputed
+            kind.append(f"{name}: not computed: {reason}")
+    if wrong:
+        sys.exit("\n".join(wrong))
+    print("\n".join(uncomputed + [f"model_distinct: {number} cases are as computed, {len(uncomputed)} are not computed"]))
+    sys.exit()
+
+
+class InFolder:
+    """Files by their names in a folder of other files. The @ before a name is a folder too."""
+
+    def __init__(self, files, dir):
+        self.files, self.dir = files, dir
+
+    def path(self, name):
+        if name == "-" or name.startswith(("/", "@")):
+            return name
+        return os.path.normpath(os.path.join(self.dir.replace("@", "@/", 1), name)).replace("@/", "@", 1)
+
+    def __contains__(self, name):
+        return self.path(name) in self.files
+
+    def __getitem__(self, name):
+        return self.files[self.path(name)]
+
+    def __setitem__(self, name, text):
+        self.files[self.path(name)] = text
+
+
+class OpenFiles(dict):
+    """The files of this folder, by their names."""
+
+    def __contains__(self, name):
+        return name == "-" or os.path.isfile(name)
+
+    def __getitem__(self, name):
+        return sys.stdin.buffer.read() if name == "-" else bytes_of(name)
+
+    def __setitem__(self, name, text):
+        with open(name, "wb") as file:
+            file.write(text)
+
+
+def main():
+    if sys.argv[1:2] == ["--check"]:
+        check(sys.argv[2].rstrip("/"))
+    messages = []
+    try:
+        sys.stdout.buffer.write(run(sys.argv[1:], OpenFiles(), messages))
+    except Fault as fault:
+        sys.exit(print(f"model_distinct: wrong arguments: {fault}", file=sys.stderr) or 2)
+    except (Failure, Uncomputed) as failure:
+        messages.append(str(failure))
+        sys.exit(print(f"distinct: {failure}", file=sys.stderr) or 1)
+    for it in messages:
+        print(f"distinct: {it}", file=sys.stderr)
+
+
+if __name__ == "__main__":
+    main()
