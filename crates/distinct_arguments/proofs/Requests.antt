@@ -94,7 +94,8 @@ once_first (word ∷ words) =
     at_first (is_help word) (is_version word) _ _ _ tt tt
     (at_command (command_of word) (λ command. command_action command default_options None words) _ (λ command. once_command command default_options None words) tt)
 
-at_front_dir : (other : Bool) (found : Option (List ℕ)) (a b next : Placed) → ReadsOnce a.action → ReadsOnce b.action → ReadsOnce next.action → ReadsOnce (cond other a (option_map_or (λ dir. within dir next) found b)).action
+at_front_dir : (other : Bool) (found : Option (List ℕ)) (a b next : Placed) → ReadsOnce a.action → ReadsOnce b.action → ReadsOnce next.action
+    → ReadsOnce (cond other a (option_map_or (λ dir. within dir next) found b)).action
 at_front_dir true found a b next first second third = first
 at_front_dir false None a b next first second third = second
 at_front_dir false (Some dir) a b next first second third = third
@@ -102,7 +103,8 @@ at_front_dir false (Some dir) a b next first second third = third
 once_placed : (pending : Option (List ℕ)) (words : List (List ℕ)) → ReadsOnce (placed_action pending words).action
 once_placed None [] = tt
 once_placed None (word ∷ words) =
-    at_front_dir (not (is_dir (split_option word).name)) (split_option word).value _ _ _ (once_first (word ∷ words)) (once_placed (Some (split_option word).name) words) (once_placed None words)
+    at_front_dir (not (is_dir (split_option word).name)) (split_option word).value _ _ _
+    (once_first (word ∷ words)) (once_placed (Some (split_option word).name) words) (once_placed None words)
 once_placed (Some name) [] = tt
 once_placed (Some name) (dir ∷ words) = once_placed None words
 
