@@ -12,7 +12,7 @@ use Rattle.distinct_arguments.specs.declared.commands.Operator.TheVariants.{Unio
 use Rattle.distinct_inputs.specs.Failures.{images_in, unites_sums, IsOfImages, IsOfEitherUnion, IsOfCombining}
 use Rattle.distinct_commands.specs.Failing.{OrUnnamed}
 use Rattle.distinct_inputs.specs.declared.failure.Failure.{Failure}
-use Rattle.distinct_inputs.specs.declared.failure.Failure.TheVariants.{NotText, Arguments, NoFiles, NotTwo, NoExpression, NoName, NoNul, NoSeed, Terminal, WrongCount, NotOneEach, Memory, Unreadable, NoSketch, NoSums, NoHex, NoTab, NoLine, PastGreatest, PastUnion, PastResult, NotANumber, NotWritten}
+use Rattle.distinct_inputs.specs.declared.failure.Failure.TheVariants.{NotText, Arguments, NoFiles, NotTwo, NoExpression, NoDir, NoName, NoNul, NoSeed, Terminal, WrongCount, NotOneEach, Memory, Unreadable, NoSketch, NoSums, NoHex, NoTab, NoLine, PastGreatest, PastUnion, PastResult, NotANumber, NotWritten}
 
 -- images that an operator reads
 images_combining : (operator : Operator) (options : OptionValues) (seed count : ℕ) (texts : Option (List (List ℕ))) (f : Failure) →
@@ -25,6 +25,7 @@ images_combining operator options seed count texts (NoExpression text fault) fai
 images_combining operator options seed count texts Terminal failed = absurd failed
 images_combining operator options seed count texts (WrongCount found expected) failed = absurd failed
 images_combining operator options seed count texts (NotOneEach found expected) failed = absurd failed
+images_combining operator options seed count texts (NoDir name error) failed = absurd failed
 images_combining operator options seed count texts (NoSeed name) failed = absurd failed
 images_combining operator options seed count texts (NoName name number) failed = absurd failed
 images_combining operator options seed count texts (NoNul name) failed = absurd failed
@@ -55,6 +56,7 @@ union_combining options seed count texts (NoExpression text fault) failed = absu
 union_combining options seed count texts Terminal failed = absurd failed
 union_combining options seed count texts (WrongCount found expected) failed = failed
 union_combining options seed count texts (NotOneEach found expected) failed = absurd failed
+union_combining options seed count texts (NoDir name error) failed = absurd failed
 union_combining options seed count texts (NoSeed name) failed = absurd failed
 union_combining options seed count texts (NoName name number) failed = absurd failed
 union_combining options seed count texts (NoNul name) failed = absurd failed
@@ -86,6 +88,7 @@ named IsUnnamed IsOther (NoExpression text fault) never failed = failed
 named IsUnnamed IsOther Terminal never failed = failed
 named IsUnnamed IsOther (WrongCount found expected) never failed = failed
 named IsUnnamed IsOther (NotOneEach found expected) never failed = failed
+named IsUnnamed IsOther (NoDir name error) never failed = failed
 named IsUnnamed IsOther (NoSeed name) never failed = failed
 named IsUnnamed IsOther (NoName name number) never failed = failed
 named IsUnnamed IsOther (NoNul name) never failed = failed

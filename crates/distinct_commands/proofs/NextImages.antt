@@ -13,7 +13,7 @@ use Rattle.line_sketches.specs.Shards.{AreRead}
 use Rattle.distinct_commands.specs.Answers.{AreShownByName, AreShown, IsExpected, IsIntersectionImage, intersection_of}
 use Rattle.distinct_inputs.specs.Failures.{called, AreCounted, IsOfImages}
 use Rattle.distinct_inputs.specs.declared.failure.Failure.{Failure}
-use Rattle.distinct_inputs.specs.declared.failure.Failure.TheVariants.{NotText, Arguments, NoFiles, NotTwo, NoExpression, NoName, NoNul, NoSeed, Terminal, WrongCount, NotOneEach, Memory, Unreadable, NoSketch, NoSums, NoHex, NoTab, NoLine, PastGreatest, PastUnion, PastResult, NotANumber, NotWritten}
+use Rattle.distinct_inputs.specs.declared.failure.Failure.TheVariants.{NotText, Arguments, NoFiles, NotTwo, NoExpression, NoDir, NoName, NoNul, NoSeed, Terminal, WrongCount, NotOneEach, Memory, Unreadable, NoSketch, NoSums, NoHex, NoTab, NoLine, PastGreatest, PastUnion, PastResult, NotANumber, NotWritten}
 use Rattle.distinct_inputs.specs.declared.images.Images.{Images}
 use Rattle.distinct_inputs.specs.Images.{alone, images_of, parts_left, remaining_images, open_text, HasNoSketch, IsNoSketch, ReadsFirst, ReadsNext}
 use Rattle.distinct_commands.specs.Texts.{shown_text}
@@ -240,6 +240,7 @@ fails_before sums hex seed old now P (NoExpression text fault) so_far failed = a
 fails_before sums hex seed old now P Terminal so_far failed = absurd failed
 fails_before sums hex seed old now P (WrongCount found expected) so_far failed = absurd failed
 fails_before sums hex seed old now P (NotOneEach found expected) so_far failed = absurd failed
+fails_before sums hex seed old now P (NoDir name error) so_far failed = absurd failed
 fails_before sums hex seed old now P (NoSeed name) so_far failed = absurd failed
 fails_before sums hex seed old now P (NoName name number) so_far failed = absurd failed
 fails_before sums hex seed old now P (NoNul name) so_far failed = absurd failed
