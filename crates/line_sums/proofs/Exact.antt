@@ -1,6 +1,6 @@
 -- A sketch of sums, after a trim: the hashes that the theta sketch of the same lines retains, each with its exact sum.
-use Rattle.std.proofs.Common.{◌≡◌, ℕ, ◌^◌, true, false, cond, eqb, ltb, List, [], ◌∷◌, ◌++◌, length, map, Some, None, Result, Ok, Err, refl, sym, ap, subst, ◌∙◌, arith}
-use Rattle.std.specs.Prelude.{pos, ⊤, ◌==◌, ◌-◌, IfOk, Bool}
+use Rattle.std.proofs.Common.{◌≡◌, ℕ, ◌^◌, true, false, cond, ltb, List, [], ◌∷◌, ◌++◌, length, map, Some, None, Result, Ok, Err, refl, sym, ap, ◌∙◌, arith}
+use Rattle.std.specs.Prelude.{pos, ◌==◌, ◌-◌, IfOk, Bool}
 use Rattle.std.specs.List.{AllByRecursion}
 use Rattle.std.specs.Option.{option_map}
 use Rattle.std.proofs.lemmas.Bool.Decides.{nat_tests}
@@ -8,10 +8,9 @@ use Rattle.std.proofs.lemmas.Int.{ints}
 use Rattle.sketch_base.specs.declared.error.ErrorKind.{ErrorKind}
 use Rattle.core_compact.specs.CompactState.{Compact, IsAnswer, ordered_sketch, empty_compact}
 use Rattle.core_laws.specs.Cuts.{Retained, cut, none_below}
-use Rattle.core_laws.specs.Entries.{hash_key}
 use Rattle.core_laws.specs.Folds.{Fold, Value, Refused, fold_key, folded_of, unmarked}
 use Rattle.core_laws.specs.Leaf.{KeepsHashes, kmin, leaf_from, is_updated, whole}
-use Rattle.core_laws.specs.Maps.{IsAscending, below, entry_at}
+use Rattle.core_laws.specs.Maps.{below, entry_at}
 use Rattle.core_laws.specs.Values.{Sketch, Empty, NonEmpty}
 use Rattle.core_laws.specs.declared.TheConstants.{MAX_THETA}
 use Rattle.core_laws.specs.declared.leaf.LeafStep.{LeafStep}
@@ -19,8 +18,7 @@ use Rattle.core_laws.specs.declared.leaf.LeafStep.TheVariants.{Trim}
 use Rattle.core_laws.proofs.cuts.WithinWholeMaps.{found_key}
 use Rattle.core_laws.proofs.insertions.FoldedSteps.{folded-keeps}
 use Rattle.core_laws.proofs.insertions.Leaves.{leaf-sample, within-leaf, leaf_from-append, is_updated-append, trimmed}
-use Rattle.core_laws.proofs.maps.Ascending.{ascending-head, ascending-tail, each-filter}
-use Rattle.core_laws.proofs.maps.LookUps.{entry_at-below, entry_at_head, entry_at_past, entry_at_rest}
+use Rattle.core_laws.proofs.maps.LookUps.{entry_at-below}
 use Rattle.core_laws.proofs.maps.MappedEntries.{cut-map, entry_at-map}
 use Rattle.core_policies.specs.Sums.{adds, unsigned_sum, unsigned-summed}
 use Rattle.core_policies.proofs.FoldedValues.{updates-keep}
@@ -38,41 +36,7 @@ use Rattle.plan_values.proofs.NodeEquations.{whole_leaf}
 use Rattle.plan_values.specs.AddedValues.{total}
 use Rattle.plan_values.specs.Family.{tuple_folds}
 use Rattle.plan_values.specs.WholeStreams.{whole_in}
-
--- what holds of each entry that is found at its key holds of all
-pub each_found : {X : Type 0} (key : X → ℕ) (P : X → Type 0) (xs : List X) → IsAscending key xs → ((q : ℕ) (x : X) → entry_at key xs q ≡ Some x → P x) → AllByRecursion P xs
-each_found key P [] up found = tt
-each_found {X} key P (x ∷ xs) up found =
-    let later : (q : ℕ) (y : X) → entry_at key xs q ≡ Some y → entry_at key (x ∷ xs) q ≡ Some y = λ q y e.
-    (elim (eqb (key x) q) as (λ b. eqb (key x) q ≡ b → entry_at key (x ∷ xs) q ≡ Some y) [
-      | true ↦ λ same.
-          let is : key x ≡ q = grind (arith, nat_tests) in
-          let none : entry_at key xs (key x) ≡ None = entry_at_past key xs (key x) (ascending-head key x xs up) in
-          let some : entry_at key xs (key x) ≡ Some y = subst (λ (p : ℕ). entry_at key xs p ≡ Some y) (sym is) e in
-          absurd (cc)
-      | false ↦ λ other. let differs : key x ≡ q → ⊥ = grind (arith, nat_tests) in entry_at_rest key x xs q differs ∙ e
-    ]) refl in
-    (found (key x) x (entry_at_head key x xs (key x) refl), each_found key P xs (ascending-tail key x xs up) (λ q y e. found q y (later q y e)))
-
--- an entry whose sum is the one of its hash
-abbrev pub HasNumber : (ℕ → ℕ) → Fold (TupleEntry ℕ) → Type 0
-HasNumber number_of (Value e) = e.summary ≡ number_of e.hash
-HasNumber number_of (Refused h) = ⊤
-
--- such entries, by their keys
-by_keys : (number_of : ℕ → ℕ) (xs : List (TupleEntry ℕ)) → AllByRecursion (HasNumber number_of) (map Value xs) → xs ≡ map (λ h. tuple_of h (number_of h)) (map tuple_key xs)
-by_keys number_of [] all = refl
-by_keys number_of (x ∷ xs) all =
-    let one : x ≡ tuple_of x.hash (number_of x.hash) = ap (tuple_of x.hash) all.0 in
-    ap (λ (e : TupleEntry ℕ). e ∷ xs) one ∙ ap (λ (ys : List (TupleEntry ℕ)). tuple_of x.hash (number_of x.hash) ∷ ys) (by_keys number_of xs all.1)
-
-keys_unmarked : (xs : List (TupleEntry ℕ)) → map (fold_key tuple_key) (map Value xs) ≡ map tuple_key xs
-keys_unmarked [] = refl
-keys_unmarked (x ∷ xs) = ap (λ (hs : List ℕ). x.hash ∷ hs) (keys_unmarked xs)
-
-cut_each : {X : Type 0} (key : X → ℕ) (P : X → Type 0) (k : ℕ) (xs : List X) (t : ℕ) → AllByRecursion P xs → AllByRecursion P (cut key k xs t).entries
-unfolding cut
-cut_each key P k xs t all = each-filter P _ xs all
+use Rattle.tuple_sketches.proofs.Sums.{HasNumber, each_found, retained_numbers}
 
 pub folds_keep : KeepsHashes (fold_key tuple_key) (folded_of tuple_key adds)
 folds_keep = folded-keeps tuple_key adds (updates-keep (Some 0) (unsigned_sum 64))
@@ -119,25 +83,10 @@ module _ (hashing : Hashing) (amount : List ℕ → ℕ) (lines : List (List ℕ
         | Refused h ↦ λ found. tt
       ])
 
-  -- what is retained without a mark of a map that has the keys of lines, each with the sum of what its lines add, if it has no mark
-  pub retained_by : (folds : List (Fold (TupleEntry ℕ))) → map (fold_key tuple_key) folds ≡ key_set hashing lines → AllByRecursion (HasNumber (sum_at hashing amount lines)) folds → (k : ℕ) (v : Retained (TupleEntry ℕ)) → unmarked v ≡ cut (fold_key tuple_key) k folds MAX_THETA →
-      v ≡ record { entries = map (λ h. tuple_of h (sum_at hashing amount lines h)) (kmin k (key_set hashing lines) MAX_THETA).entries; theta = (kmin k (key_set hashing lines) MAX_THETA).theta }
-  retained_by folds keys_are each k v is =
-      let keys : cut hash_key k (key_set hashing lines) MAX_THETA ≡ record { entries = map (fold_key tuple_key) (cut (fold_key tuple_key) k folds MAX_THETA).entries; theta = (cut (fold_key tuple_key) k folds MAX_THETA).theta } =
-      ap (λ (hs : List ℕ). cut hash_key k hs MAX_THETA) (sym keys_are) ∙ cut-map (fold_key tuple_key) (fold_key tuple_key) hash_key (λ f. refl) k folds MAX_THETA in
-      let kept : map tuple_key v.entries ≡ (kmin k (key_set hashing lines) MAX_THETA).entries =
-      sym (keys_unmarked v.entries) ∙ ap (λ (r : Retained (Fold (TupleEntry ℕ))). map (fold_key tuple_key) r.entries) is ∙ ap (λ (r : Retained ℕ). r.entries) (sym keys) in
-      let all : AllByRecursion (HasNumber (sum_at hashing amount lines)) (map Value v.entries) =
-      subst (λ (r : Retained (Fold (TupleEntry ℕ))). AllByRecursion (HasNumber (sum_at hashing amount lines)) r.entries) (sym is) (cut_each (fold_key tuple_key) (HasNumber (sum_at hashing amount lines)) k folds MAX_THETA each) in
-      let entries : v.entries ≡ map (λ h. tuple_of h (sum_at hashing amount lines h)) (kmin k (key_set hashing lines) MAX_THETA).entries =
-      by_keys (sum_at hashing amount lines) v.entries all ∙ ap (map (λ h. tuple_of h (sum_at hashing amount lines h))) kept in
-      let theta : v.theta ≡ (kmin k (key_set hashing lines) MAX_THETA).theta = ap (λ (r : Retained (Fold (TupleEntry ℕ))). r.theta) is ∙ ap (λ (r : Retained ℕ). r.theta) (sym keys) in
-      λ i. record { entries = entries i; theta = theta i }
-
   -- what is retained of the whole map without a mark, by its keys
   retained_exact : (k : ℕ) (v : Retained (TupleEntry ℕ)) → unmarked v ≡ cut (fold_key tuple_key) k whole_map MAX_THETA →
       v ≡ record { entries = map (λ h. tuple_of h (sum_at hashing amount lines h)) (kmin k (key_set hashing lines) MAX_THETA).entries; theta = (kmin k (key_set hashing lines) MAX_THETA).theta }
-  retained_exact k v is = retained_by whole_map keys_whole each_number k v is
+  retained_exact k v is = retained_numbers (sum_at hashing amount lines) (key_set hashing lines) whole_map keys_whole each_number k MAX_THETA v is
 
 stays_updated : (hashing : Hashing) (amount : List ℕ → ℕ) (lines : List (List ℕ)) → is_updated (sum_steps hashing amount lines) true ≡ true
 stays_updated hashing amount [] = refl

@@ -37,7 +37,8 @@ use Rattle.line_sums.specs.Sums.{sum_at, sums_of_lines}
 use Rattle.line_sums.specs.Unions.{add_folds}
 use Rattle.line_sums.proofs.Amounts.{sum_append}
 use Rattle.line_sums.proofs.Below.{is_found}
-use Rattle.line_sums.proofs.Exact.{HasNumber, each_found, injected, retained_by}
+use Rattle.line_sums.proofs.Exact.{injected}
+use Rattle.tuple_sketches.proofs.Sums.{HasNumber, each_found, retained_numbers}
 
 pub add_keeps : KeepsKey (fold_key tuple_key) add_folds
 add_keeps = fold_keeps tuple_key (combined (unsigned_sum 64)) (combine_refused (unsigned_sum 64)) (combined-keeps (unsigned_sum 64))
@@ -344,7 +345,7 @@ module _ (hashing : Hashing) (amount : List ℕ → ℕ) where
           let whole : unmarked_value u ≡ NonEmpty (cut (fold_key tuple_key) (2 ^ lg_k) (joined_folds parts) MAX_THETA) =
           is ∙ union_lawful (fold_key tuple_key) add_folds add_keeps (2 ^ lg_k) MAX_THETA MAX_THETA (in_folds values) (map sum_map parts) (omega arith) (samples values parts are) (lawfuls values parts are) some in
           let kept = opened u (cut (fold_key tuple_key) (2 ^ lg_k) (joined_folds parts) MAX_THETA) whole in
-          let exact = retained_by hashing amount (all_lines hashing parts) (joined_folds parts) (keys_joined parts) (each_joined parts) (2 ^ lg_k) kept.0 kept.2 in
+          let exact = retained_numbers (sum_at hashing amount (all_lines hashing parts)) (key_set hashing (all_lines hashing parts)) (joined_folds parts) (keys_joined parts) (each_joined parts) (2 ^ lg_k) MAX_THETA kept.0 kept.2 in
           kept.1 ∙ ap (λ (v : Retained (TupleEntry ℕ)). NonEmpty v) exact
           ∙ ap (λ (ls : List (List ℕ)). NonEmpty (record { entries = map (λ h. tuple_of h (sum_at hashing amount ls h)) (kmin (2 ^ lg_k) (key_set hashing ls) MAX_THETA).entries; theta = (kmin (2 ^ lg_k) (key_set hashing ls) MAX_THETA).theta })) e
     ]) refl
