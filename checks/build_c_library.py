@@ -1,5 +1,5 @@
 #!/usr/bin/env python3
-"""Builds the static library of sketch_c for any x86-64 processor over the libraries that rt ci has just built (building.py).
+"""Builds the static library of c_library for any x86-64 processor over the libraries that rt ci has just built (building.py).
 
 rt lib, which make proved in bindings/c calls, would prove all of them once more. It is called only if the libraries aren't there,
 as after a run of rt ci that kept all its results, or don't belong together.
@@ -11,7 +11,7 @@ import sys
 sys.dont_write_bytecode = True
 import building  # noqa: E402
 
-CRATE = "sketch_c"
+CRATE = "c_library"
 
 
 def main():

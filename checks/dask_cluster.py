@@ -17,7 +17,7 @@ Python package, compiled for this:
   the table and reads the next.
 
 The environment may name the program in DISTINCT_PROGRAM; else it is proved and built, as ./install does. The C library of the
-package has to be built (make -C bindings/c proved), in crates/sketch_c/out or the folder KAFTANCLAY_LIB. Packages that are missing
+package has to be built (make -C bindings/c proved), in crates/c_library/out or the folder KAFTANCLAY_LIB. Packages that are missing
 are installed by checks/install_packages.py. If they can't be installed the check fails, or, if the environment has
 DISTINCT_SKIP_DASK=1, is skipped, as a whole or without the Python package. Apart from installing and building it takes a minute,
 and each cluster is ended after two.
@@ -314,8 +314,8 @@ def compare_package(cluster, program):
 
 def compiled_package(place):
     """The Python with the package, compiled into a folder; or None, if it can't be and that may be skipped."""
-    library = os.path.abspath(os.environ.get("KAFTANCLAY_LIB") or f"{TOP}/crates/sketch_c/out")
-    reason = None if os.path.isfile(f"{library}/libsketch_c.a") else f"{library}/libsketch_c.a is not there: run make -C bindings/c proved"
+    library = os.path.abspath(os.environ.get("KAFTANCLAY_LIB") or f"{TOP}/crates/c_library/out")
+    reason = None if os.path.isfile(f"{library}/libc_library.a") else f"{library}/libc_library.a is not there: run make -C bindings/c proved"
     if reason is None:
         words = [f"{TOP}/bindings/python/install_in", place]
         run = subprocess.run(words, env={**os.environ, "PYTHON": PYTHON}, stderr=subprocess.PIPE, text=True, check=False)

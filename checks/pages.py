@@ -10,7 +10,7 @@
 - The table of options in docs/use/DISTINCT.md is what checks/options_table.py makes of the help of `distinct`.
 - crates.txt has each crate, with just the libraries that it names, and docs/develop/ARCHITECTURE.md (its picture too) names it.
 - theta_core exports each law of the crates that it shows: by its name in its module laws, or the whole module as `image::laws`.
-- The program of README.md is that of crates/visits, which the gate proves and runs, and README.md has at most nine kilobytes.
+- The program of README.md is that of crates/example_readme, which the gate proves and runs, and README.md has at most nine kilobytes.
 - CONTRIBUTING.md names each script of checks/ and bench/.
 
 checks/pages.py --write FOLDER writes the lists that no page has (checks/indexes.py), such as into build/pages.
@@ -180,10 +180,10 @@ def crates():
 def readme():
     """What is wrong with README.md."""
     text = text_of("README.md")
-    if text_of("crates/visits/src/main.rt") not in text.split("```rust\n")[-1]:
-        yield "the program of README.md is not that of crates/visits/src/main.rt"
-    if text_of("crates/visits/stdout").strip() not in text:
-        yield "README.md does not say what crates/visits prints"
+    if text_of("crates/example_readme/src/main.rt") not in text.split("```rust\n")[-1]:
+        yield "the program of README.md is not that of crates/example_readme/src/main.rt"
+    if text_of("crates/example_readme/stdout").strip() not in text:
+        yield "README.md does not say what crates/example_readme prints"
     if len(text.encode()) > 9216:
         yield f"README.md has {len(text.encode())} bytes, more than nine kilobytes"
 

@@ -2,7 +2,7 @@
 
 `held_by(kind, image, seed_hash)` is the sketch that an image is read as: kind is `theta`, or the type of a tuple sketch's
 summaries (`text` is a byte n and n bytes). `image_of` is the image of a sketch. `answer(kind, image)` is the line that
-crates/readings prints for an image; `sketch_line(kind, image)` is the same without the image that the sketch is written as.
+crates/tests_readers prints for an image; `sketch_line(kind, image)` is the same without the image that the sketch is written as.
 `damaged(chance)` is a kind and an image; `chance` is a random.Random.
 """
 import struct

@@ -1,6 +1,6 @@
 """A second reader of plan texts, written from docs/ (the evaluation after expected_answers.py), and texts that are damaged by chance for it.
 
-`answers(text)` are the lines that crates/readings may print for a text: one line, but for a tuple plan that may be refused by
+`answers(text)` are the lines that crates/tests_readers may print for a text: one line, but for a tuple plan that may be refused by
 its sums. docs/use/FORMATS.md says which texts are plans and which fault another text has, docs/verify/SPECIFICATION.md what a plan's
 value is. `damaged(chance)` is a text; `chance` is a random.Random.
 """

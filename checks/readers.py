@@ -2,7 +2,7 @@
 """Inputs of the readers: those of tests/readers, with their answers; and hostile input by chance, 100000 damaged images
 and 25000 damaged plan texts, of a fixed seed.
 
-The program crates/readings prints what the project's readers answer to each. It is built once, before any proof, and run on
+The program crates/tests_readers prints what the project's readers answer to each. It is built once, before any proof, and run on
 some thousand inputs at a time. Its lines must be the stored ones, and those of the second readers, which follow the pages of
 docs/: read_images.py, model_distinct.py for preambles and expressions, and read_plans.py. It takes two minutes. `checks/readers.py SEED` makes inputs
 of another seed.
@@ -135,7 +135,7 @@ def answers(inputs):
                 file.writelines(f"{name} {data.hex()}\n" for name, data in inputs[start : start + BATCH])
         # The interpreter could not end within its steps; the compiled run checks each access and sum too.
         command = [tool, "try", "--steps", "1", "--cases", place]
-        run = subprocess.run(command, cwd=f"{TOP}/crates/readings", capture_output=True, check=False)
+        run = subprocess.run(command, cwd=f"{TOP}/crates/tests_readers", capture_output=True, check=False)
     lines = run.stdout.decode("utf-8", "replace").split("\n")
     found = [line for line in lines[:-1] if not line.startswith("== ")]
     if len(found) != len(inputs):

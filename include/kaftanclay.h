@@ -25,7 +25,7 @@
  * Threads. A handle is used by one call at a time, also by calls that take it as const. No two arguments of a call may
  * overlap, except two buffers of input.
  */
-/* Made by bindings/c/make_calls.py from the exports of crates/sketch_c: change those. */
+/* Made by bindings/c/make_calls.py from the exports of crates/c_library: change those. */
 #ifndef KAFTANCLAY_H
 #define KAFTANCLAY_H
 #include <stddef.h>

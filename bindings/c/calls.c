@@ -1,6 +1,6 @@
 /* The calls of kaftanclay.h. Each tests its pointers for null, and that two that may not be one variable are two, and then calls
  * the proved export of its name with the prefix kcp_. Nothing else is done here. Made by make_calls.py from the exports of
- * crates/sketch_c: change those.
+ * crates/c_library: change those.
  *
  * A handle is const if the contract of the export says that its object is as it was. The export takes it by &mut all the same,
  * which needs the cast, and which is why two calls at once must not read one handle. */

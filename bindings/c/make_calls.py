@@ -1,5 +1,5 @@
 #!/usr/bin/env python3
-"""Makes the C part of the library from the exports of crates/sketch_c: include/kaftanclay.h, bindings/c/proved.h and
+"""Makes the C part of the library from the exports of crates/c_library: include/kaftanclay.h, bindings/c/proved.h and
 bindings/c/calls.c, and the list of names in packaging/debian/libkaftanclay0.symbols.
 
     make_calls.py --check    compares the four files with the sources, and fails if one differs
@@ -15,9 +15,9 @@ import textwrap
 from dataclasses import dataclass, field
 
 TOP = os.path.join(os.path.dirname(os.path.abspath(__file__)), "..", "..")
-EXPORTS = "crates/sketch_c/src"
-STATUSES = "crates/sketch_objects/src/status.rt"
-STRUCTS = ("crates/c_handles/src/handles.rt", "crates/sketch_objects/src/state.rt", "crates/sketch_objects/src/bounds.rt")
+EXPORTS = "crates/c_library/src"
+STATUSES = "crates/c_objects/src/status.rt"
+STRUCTS = ("crates/c_handles/src/handles.rt", "crates/c_objects/src/state.rt", "crates/c_objects/src/bounds.rt")
 # The numbers that C has by name, each with the file of its constant and the constant's name there.
 NUMBERS = {"DEFAULT_SEED": ("crates/sketch_base/src/seed.rt", "DEFAULT_UPDATE_SEED"), "MAX_THETA": ("crates/core_laws/src/lib.rt", "MAX_THETA")}
 HEADER, PROVED, CALLS = "include/kaftanclay.h", "bindings/c/proved.h", "bindings/c/calls.c"
@@ -366,7 +366,7 @@ def header(paragraphs, all_statuses, known, sections, version):
     for at, it in enumerate(paragraphs):
         first = "/* " if at == 0 else " * "
         out += ([" *"] if at else []) + wrapped(it, first, " * ")
-    out += [" */", "/* Made by bindings/c/make_calls.py from the exports of crates/sketch_c: change those. */"]
+    out += [" */", "/* Made by bindings/c/make_calls.py from the exports of crates/c_library: change those. */"]
     out += ["#ifndef KAFTANCLAY_H", "#define KAFTANCLAY_H", "#include <stddef.h>", "#include <stdint.h>", "#ifdef __cplusplus", 'extern "C" {', "#endif", ""]
     out += [f'#define KC_VERSION "{version}"']
     out += [f"#define KC_{name} UINT64_C({number(*place)})" for name, place in NUMBERS.items()]
@@ -408,7 +408,7 @@ def proved(sections):
 CALLS_HEAD = """\
 /* The calls of kaftanclay.h. Each tests its pointers for null, and that two that may not be one variable are two, and then calls
  * the proved export of its name with the prefix kcp_. Nothing else is done here. Made by make_calls.py from the exports of
- * crates/sketch_c: change those.
+ * crates/c_library: change those.
  *
  * A handle is const if the contract of the export says that its object is as it was. The export takes it by &mut all the same,
  * which needs the cast, and which is why two calls at once must not read one handle. */

@@ -53,9 +53,9 @@ def run(words, **more):
 
 def build(folder, *words):
     """Runs make in a folder of bindings/. The library has to be proved and built, or KAFTANCLAY_LIB names a folder that has it."""
-    library = os.environ.get("KAFTANCLAY_LIB") or os.path.join(TOP, "crates", "sketch_c", "out")
-    if not os.path.exists(os.path.join(library, "libsketch_c.a")):
-        sys.exit(f"{library}: has no libsketch_c.a; run `make proved` in bindings/c, or name its folder in KAFTANCLAY_LIB")
+    library = os.environ.get("KAFTANCLAY_LIB") or os.path.join(TOP, "crates", "c_library", "out")
+    if not os.path.exists(os.path.join(library, "libc_library.a")):
+        sys.exit(f"{library}: has no libc_library.a; run `make proved` in bindings/c, or name its folder in KAFTANCLAY_LIB")
     run(["make", "--no-print-directory", "-C", os.path.join(TOP, "bindings", folder), *words])
 
 

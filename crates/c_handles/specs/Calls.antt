@@ -1,7 +1,7 @@
 -- The shapes of calls on handles: by the object before, the status and the object after.
 use Rattle.std.specs.Prelude.{◌≡◌, ℕ, Option, Some, None, Result, MatchResult}
 use Rattle.sketch_base.specs.declared.error.ErrorKind.{ErrorKind}
-use Rattle.sketch_objects.specs.Status.{status_of}
+use Rattle.c_objects.specs.Status.{status_of}
 
 -- a call on an object: a handle without one is refused with 1 and keeps none
 abbrev pub OnObject : {T : Type 0} → (Does : T → ℕ → T → Type 0) → Option T → (status : ℕ) → Option T → Type 0

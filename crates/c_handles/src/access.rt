@@ -6,8 +6,8 @@ ghost use Rattle.c_handles.specs.contracts.owned.Owned.{the_row};
 
 use crate::loose::Loose;
 use crate::owned::Owned;
+use c_objects::status::{INVALID_ARGUMENT, OK, OUT_OF_MEMORY, status_of};
 use sketch_base::Error;
-use sketch_objects::status::{INVALID_ARGUMENT, OK, OUT_OF_MEMORY, status_of};
 use std::alloc::Global;
 
 impl<T> Owned<T> {

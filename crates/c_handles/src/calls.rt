@@ -2,19 +2,19 @@
 //! needs is missing.
 ghost use Rattle.std.specs.Prelude.{◌≡◌, true, option_map};
 ghost use Rattle.c_handles.specs.Calls.{OnObject, OnObjectWith, Fills, FillsFrom, FillsFromTwo, WritesValue};
-ghost use Rattle.sketch_objects.specs.Bounds.{is_state, wide};
-ghost use Rattle.sketch_objects.specs.Buffer.{WritesOf};
-ghost use Rattle.sketch_objects.specs.Status.{IsMemoryRefusal};
+ghost use Rattle.c_objects.specs.Bounds.{is_state, wide};
+ghost use Rattle.c_objects.specs.Buffer.{WritesOf};
+ghost use Rattle.c_objects.specs.Status.{IsMemoryRefusal};
 
 use crate::owned::Owned;
-use sketch_objects::bounds::Wide;
-use sketch_objects::buffer::put_made;
-use sketch_objects::objects::{
+use c_objects::bounds::Wide;
+use c_objects::buffer::put_made;
+use c_objects::objects::{
     Accepts, AcceptsImages, CanCopy, CanReset, CanTrim, FromImage, HasCompact, HasDifference,
     HasImage, HasState, HasTotal,
 };
-use sketch_objects::state::State;
-use sketch_objects::status::{INVALID_ARGUMENT, OK};
+use c_objects::state::State;
+use c_objects::status::{INVALID_ARGUMENT, OK};
 use std::alloc::Global;
 
 impl<T: HasState> Owned<T> {

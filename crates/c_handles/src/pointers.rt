@@ -3,10 +3,10 @@
 //! A handle and its `Owned` are the same bytes and own the same, so a `&mut` to the one is a `&mut` to the other.
 ghost use Rattle.std.specs.Prelude.{◌≡◌};
 ghost use Rattle.std.specs.Borrow.{sem, Lends};
-ghost use Rattle.line_sketches.specs.contracts.pieces.OpenText as text;
-ghost use Rattle.sketch_objects.specs.contracts.batch.SeededBatch as batch;
-ghost use Rattle.sketch_objects.specs.contracts.compact.CompactSketch as compact;
-ghost use Rattle.sketch_objects.specs.contracts.compact_sums.CompactSums as compact_sums;
+ghost use Rattle.keys_sketches.specs.contracts.pieces.OpenText as text;
+ghost use Rattle.c_objects.specs.contracts.batch.SeededBatch as batch;
+ghost use Rattle.c_objects.specs.contracts.compact.CompactSketch as compact;
+ghost use Rattle.c_objects.specs.contracts.compact_sums.CompactSums as compact_sums;
 ghost use Rattle.c_handles.specs.contracts.handles.BatchHandle as batch_handle;
 ghost use Rattle.c_handles.specs.contracts.handles.CompactHandle as compact_handle;
 ghost use Rattle.c_handles.specs.contracts.handles.CompactSumsHandle as compact_sums_handle;
@@ -17,29 +17,29 @@ ghost use Rattle.c_handles.specs.contracts.handles.SumsUnionHandle as sums_union
 ghost use Rattle.c_handles.specs.contracts.handles.TextHandle as text_handle;
 ghost use Rattle.c_handles.specs.contracts.handles.ThetaHandle as theta_handle;
 ghost use Rattle.c_handles.specs.contracts.handles.UnionHandle as union_handle;
-ghost use Rattle.sketch_objects.specs.contracts.intersection.SeededIntersection as intersection;
+ghost use Rattle.c_objects.specs.contracts.intersection.SeededIntersection as intersection;
 ghost use Rattle.c_handles.specs.contracts.owned.Owned as owned;
-ghost use Rattle.sketch_objects.specs.contracts.sums.SeededSums as sums;
-ghost use Rattle.sketch_objects.specs.contracts.sums_intersection.SeededSumsIntersection as sums_intersection;
-ghost use Rattle.sketch_objects.specs.contracts.sums_union.SeededSumsUnion as sums_union;
-ghost use Rattle.sketch_objects.specs.contracts.theta.SeededSketch as theta;
-ghost use Rattle.sketch_objects.specs.contracts.union.SeededUnion as union;
+ghost use Rattle.c_objects.specs.contracts.sums.SeededSums as sums;
+ghost use Rattle.c_objects.specs.contracts.sums_intersection.SeededSumsIntersection as sums_intersection;
+ghost use Rattle.c_objects.specs.contracts.sums_union.SeededSumsUnion as sums_union;
+ghost use Rattle.c_objects.specs.contracts.theta.SeededSketch as theta;
+ghost use Rattle.c_objects.specs.contracts.union.SeededUnion as union;
 
 use crate::handles::{
     BatchHandle, CompactHandle, CompactSumsHandle, IntersectionHandle, SumsHandle,
     SumsIntersectionHandle, SumsUnionHandle, TextHandle, ThetaHandle, UnionHandle,
 };
 use crate::owned::Owned;
-use line_sketches::OpenText;
-use sketch_objects::batch::SeededBatch;
-use sketch_objects::compact::CompactSketch;
-use sketch_objects::compact_sums::CompactSums;
-use sketch_objects::intersection::SeededIntersection;
-use sketch_objects::sums::SeededSums;
-use sketch_objects::sums_intersection::SeededSumsIntersection;
-use sketch_objects::sums_union::SeededSumsUnion;
-use sketch_objects::theta::SeededSketch;
-use sketch_objects::union::SeededUnion;
+use c_objects::batch::SeededBatch;
+use c_objects::compact::CompactSketch;
+use c_objects::compact_sums::CompactSums;
+use c_objects::intersection::SeededIntersection;
+use c_objects::sums::SeededSums;
+use c_objects::sums_intersection::SeededSumsIntersection;
+use c_objects::sums_union::SeededSumsUnion;
+use c_objects::theta::SeededSketch;
+use c_objects::union::SeededUnion;
+use keys_sketches::OpenText;
 
 impl ThetaHandle {
     /// The pointer of the handle.

@@ -1,15 +1,15 @@
 //! Objects on more than one thread.
 
-use line_sketches::OpenText;
-use sketch_objects::batch::SeededBatch;
-use sketch_objects::compact::CompactSketch;
-use sketch_objects::compact_sums::CompactSums;
-use sketch_objects::intersection::SeededIntersection;
-use sketch_objects::sums::SeededSums;
-use sketch_objects::sums_intersection::SeededSumsIntersection;
-use sketch_objects::sums_union::SeededSumsUnion;
-use sketch_objects::theta::SeededSketch;
-use sketch_objects::union::SeededUnion;
+use c_objects::batch::SeededBatch;
+use c_objects::compact::CompactSketch;
+use c_objects::compact_sums::CompactSums;
+use c_objects::intersection::SeededIntersection;
+use c_objects::sums::SeededSums;
+use c_objects::sums_intersection::SeededSumsIntersection;
+use c_objects::sums_union::SeededSumsUnion;
+use c_objects::theta::SeededSketch;
+use c_objects::union::SeededUnion;
+use keys_sketches::OpenText;
 
 fn is_send<T: Send>() {}
 

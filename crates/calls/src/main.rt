@@ -8,11 +8,11 @@
 use calls_language::driver::Line;
 use calls_language::object::Heap;
 use calls_language::words::cut_word;
-use lines::cut_line;
-use refusing_allocator::Refusing;
+use keys_lines::cut_line;
 use std::alloc::{AllocError, Global};
 use std::io::{self, Read, Write};
 use std::str;
+use tests_allocator::Refusing;
 
 /// The settings of a line and its calls: they end at the first colon that a blank or the end follows.
 fn cut_settings(text: &str) -> (&str, &str) {

@@ -3,9 +3,9 @@ use crate::answers::Answers;
 use crate::object::{Call, Heap, Left, Memory, Object};
 use crate::series::{Spread, spread_of};
 use crate::words::{Fault, put_fault};
-use refusing_allocator::Refusal;
 use sketch_base::ErrorKind;
 use std::alloc::{AllocError, Global};
+use tests_allocator::Refusal;
 
 /// The settings and the calls of a line, and whether requests for memory are refused.
 #[derive(Clone, Copy)]

@@ -1,7 +1,7 @@
 //! Objects of lines, their memory and their calls.
 use crate::words::{Fault, cut_word};
-use refusing_allocator::{Refusal, Refusing};
 use std::alloc::Global;
+use tests_allocator::{Refusal, Refusing};
 
 /// The memory of objects: its requests are counted, and some are refused.
 pub type Heap = Refusing<Global>;

@@ -1,5 +1,5 @@
 //! Words of lines, and the faults that calls and words have.
-use line_sketches::read_hex;
+use keys_sketches::read_hex;
 use sketch_base::{Error, ErrorKind};
 use std::alloc::{AllocError, AllocFailed, Global};
 

@@ -2,8 +2,8 @@
 use calls_language::object::{Call, Memory, Object};
 use calls_language::settings::Settings;
 use calls_language::words::{Fault, put_bytes};
-use line_sketches::{Watch, image_of_texts};
-use lines::{Hashing, Key};
+use keys_lines::{Hashing, Key};
+use keys_sketches::{Watch, image_of_texts};
 use std::alloc::{Allocator, Global};
 use theta_sketches::{DEFAULT_UPDATE_SEED, ThetaSketch};
 

@@ -2,7 +2,7 @@
 
 use distinct_arguments::{Escaped, Fault};
 use distinct_inputs::{Failure, family_name};
-use line_sketches::Flaw;
+use keys_sketches::Flaw;
 use std::fmt;
 use std::io::ErrorKind;
 

@@ -20,7 +20,7 @@ use crate::progress::Progress;
 use distinct_arguments::{Command, Fault, Front, Options, Request, Seed, front_of, read_arguments};
 use distinct_commands::{Operands, group_files, only_expression, perform};
 use distinct_inputs::{Failure, Files, Inputs, files_in_list, seed_of};
-use lines::Key;
+use keys_lines::Key;
 use sketch_base::DEFAULT_UPDATE_SEED;
 use std::env;
 use std::env::Env;

@@ -3,7 +3,7 @@ ghost use Rattle.std.specs.Prelude.{IfErr};
 ghost use Rattle.distinct_inputs.specs.Failures.{IsOfWriting};
 
 use distinct_inputs::{Failure, not_written};
-use grouped_lines::GroupFile;
+use keys_groups::GroupFile;
 use std::alloc::Global;
 use std::fs::{File, Files};
 use std::io::{ErrorKind, Write};

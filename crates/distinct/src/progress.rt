@@ -1,9 +1,9 @@
 //! Remarks and reports of progress on standard error.
 
 use distinct_inputs::{Console, Remark};
-use grouped_lines::GroupWatch;
-use line_sketches::Watch;
-use reports::estimate_so_far;
+use keys_groups::GroupWatch;
+use keys_reports::estimate_so_far;
+use keys_sketches::Watch;
 use std::alloc::Allocator;
 use std::time::{Duration, Instant};
 use theta_sketches::ThetaSketch;

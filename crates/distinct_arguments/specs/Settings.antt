@@ -2,8 +2,8 @@
 use Rattle.std.specs.Prelude.{ℕ, ◌-◌, Bool, true, false, List, Option, Some, None, Result, Ok, Err}
 use Rattle.std.specs.Option.{option_map, option_map_or, unwrap_or}
 use Rattle.sketch_base.specs.declared.seed.TheConstants.{DEFAULT_UPDATE_SEED}
-use Rattle.lines.specs.declared.key.Key.{Key}
-use Rattle.lines.specs.declared.key.Key.TheVariants.{Line, Field as FieldKey}
+use Rattle.keys_lines.specs.declared.key.Key.{Key}
+use Rattle.keys_lines.specs.declared.key.Key.TheVariants.{Line, Field as FieldKey}
 use Rattle.estimates.specs.declared.bounds.Deviations.{Deviations}
 use Rattle.estimates.specs.declared.bounds.Deviations.TheVariants.{Two}
 use Rattle.distinct_arguments.specs.Words.{number_of, byte_of, seed_of, deviations_of, order_of}

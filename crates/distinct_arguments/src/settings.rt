@@ -10,7 +10,7 @@ use crate::options::{Form, OptionName, Options, Seed};
 use crate::words::{byte_of, deviations_of, number_of, order_of, seed_of};
 use core_laws::{DEFAULT_LG_K, MAX_LG_K, MIN_LG_K};
 use estimates::Deviations;
-use lines::Key;
+use keys_lines::Key;
 use sketch_base::DEFAULT_UPDATE_SEED;
 use std::alloc::Global;
 

@@ -7,20 +7,20 @@ use Rattle.theta_sketches.specs.Image.{written}
 use Rattle.sketch_base.specs.Seed.{seed_hash}
 use Rattle.core_laws.specs.Values.{Sketch, Empty, NonEmpty}
 use Rattle.core_slots.specs.declared.entry.TupleEntry.{TupleEntry}
-use Rattle.lines.specs.Lines.{lines_of_all}
-use Rattle.lines.specs.declared.key.Key.{Key}
-use Rattle.line_sums.specs.Amounts.{AreNumbers}
-use Rattle.line_sums.specs.Images.{written_sums, ReadsSums}
-use Rattle.line_sums.specs.Sums.{one_each}
-use Rattle.line_sums.specs.Unions.{IsUnitedSums, AreSumsOfTexts}
-use Rattle.line_sums.specs.declared.addends.Amount.{Amount}
-use Rattle.line_sums.specs.declared.addends.Amount.TheVariants.{Number}
+use Rattle.keys_lines.specs.Lines.{lines_of_all}
+use Rattle.keys_lines.specs.declared.key.Key.{Key}
+use Rattle.keys_sums.specs.Amounts.{AreNumbers}
+use Rattle.keys_sums.specs.Images.{written_sums, ReadsSums}
+use Rattle.keys_sums.specs.Sums.{one_each}
+use Rattle.keys_sums.specs.Unions.{IsUnitedSums, AreSumsOfTexts}
+use Rattle.keys_sums.specs.declared.addends.Amount.{Amount}
+use Rattle.keys_sums.specs.declared.addends.Amount.TheVariants.{Number}
 use Rattle.distinct_commands.specs.Sums.{sums_of, IsSumsText}
 use Rattle.distinct_commands.specs.Answers.{sketch_of, lines_text, IsLinesText}
 use Rattle.distinct_commands.specs.Groups.{grouping_of, group_estimate, chosen_order, AreOrdered, groups_head, groups_text, IsGroupedText}
 use Rattle.distinct_commands.specs.Texts.{count_text}
 use Rattle.distinct_commands.specs.Visits.{visits_text, IsVisitsOfImages}
-use Rattle.grouped_lines.specs.Groups.{AreGroups}
+use Rattle.keys_groups.specs.Groups.{AreGroups}
 use Rattle.distinct_inputs.specs.Images.{in_form}
 use Rattle.distinct_arguments.specs.Settings.{OptionValues, chosen_value}
 use Rattle.distinct_arguments.specs.declared.fault.Fault.TheVariants.{LoneSum}

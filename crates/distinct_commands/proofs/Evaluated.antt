@@ -4,15 +4,15 @@ use Rattle.std.proofs.lemmas.List.{length-map}
 use Rattle.std.specs.Prelude.{IfSome, IfOk, Result, Ok, Err}
 use Rattle.sketch_base.specs.Seed.{seed_hash}
 use Rattle.core_compact.specs.CompactState.{Compact, ordered_sketch}
-use Rattle.line_sketches.specs.Sources.{GivesNext, Continues}
-use Rattle.line_sketches.specs.Shards.{sketches_of_texts}
+use Rattle.keys_sketches.specs.Sources.{GivesNext, Continues}
+use Rattle.keys_sketches.specs.Shards.{sketches_of_texts}
 use Rattle.expression_text.specs.declared.operator.Step.{Step}
 use Rattle.expression_text.specs.Grammar.{IsExpressionText}
 use Rattle.core_slots.specs.declared.entry.TupleEntry.{TupleEntry}
-use Rattle.line_sums.specs.Images.{AreReadSums}
-use Rattle.set_expressions.specs.Values.{hashes_value, sum_rules, sums_value}
-use Rattle.set_expressions.specs.Running.{values_of, sums_values}
-use Rattle.set_expressions.proofs.WholeSets.{expression_sample}
+use Rattle.keys_sums.specs.Images.{AreReadSums}
+use Rattle.expression_evaluation.specs.Values.{hashes_value, sum_rules, sums_value}
+use Rattle.expression_evaluation.specs.Running.{values_of, sums_values}
+use Rattle.expression_evaluation.proofs.WholeSets.{expression_sample}
 use Rattle.distinct_arguments.specs.Settings.{OptionValues}
 use Rattle.distinct_commands.proofs.WholeStreams.{whole_result}
 use Rattle.distinct_inputs.specs.Lists.{names_of}

@@ -2,10 +2,10 @@
 use Rattle.std.proofs.Common.{◌≡◌, ℕ, Bool, false, List, Option, sym, subst}
 use Rattle.std.specs.Prelude.{IfErr, IfSome, Result, Ok, Err}
 use Rattle.sketch_base.specs.declared.error.ErrorKind.{ErrorKind}
-use Rattle.grouped_lines.specs.United.{HasFirstFlawed, IsUnunited}
-use Rattle.grouped_lines.specs.declared.united.LineFlaw.{LineFlaw}
-use Rattle.grouped_lines.specs.declared.uniting.Ununited.{Ununited}
-use Rattle.grouped_lines.specs.declared.uniting.Ununited.TheVariants.{Flawed}
+use Rattle.keys_groups.specs.United.{HasFirstFlawed, IsUnunited}
+use Rattle.keys_groups.specs.declared.united.LineFlaw.{LineFlaw}
+use Rattle.keys_groups.specs.declared.uniting.Ununited.{Ununited}
+use Rattle.keys_groups.specs.declared.uniting.Ununited.TheVariants.{Flawed}
 use Rattle.distinct_arguments.specs.Settings.{OptionValues}
 use Rattle.distinct_arguments.specs.declared.commands.Operator.{Operator}
 use Rattle.distinct_arguments.specs.declared.commands.Operator.TheVariants.{Union}

@@ -3,8 +3,8 @@ use Rattle.std.proofs.Common.{ℕ, ◌≡◌, List, [], ◌∷◌, ◌++◌, map
 use Rattle.std.specs.Prelude.{flat_map}
 use Rattle.std.proofs.lemmas.List.{map-append}
 use Rattle.std.proofs.lemmas.List.Elements.{All-nil, All-push}
-use Rattle.grouped_lines.specs.Ranked.{HasTexts}
-use Rattle.grouped_lines.specs.declared.ranked.Ranked.{Ranked}
+use Rattle.keys_groups.specs.Ranked.{HasTexts}
+use Rattle.keys_groups.specs.declared.ranked.Ranked.{Ranked}
 
 module _ (line_of : List ℕ → List ℕ) where
   -- one line more

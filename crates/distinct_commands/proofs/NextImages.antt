@@ -7,9 +7,9 @@ use Rattle.core_compact.specs.CompactState.{Compact}
 use Rattle.theta_sketches.specs.Image.{Reads, IsReadable, written}
 use Rattle.sketch_base.specs.declared.error.ErrorKind.{ErrorKind}
 use Rattle.sketch_base.specs.declared.error.ErrorKind.TheVariants.{OutOfMemory, InvalidData}
-use Rattle.line_sketches.specs.Sources.{Continues, GivesNext}
-use Rattle.line_sketches.proofs.Refused.{faulty_next}
-use Rattle.line_sketches.specs.Shards.{AreRead}
+use Rattle.keys_sketches.specs.Sources.{Continues, GivesNext}
+use Rattle.keys_sketches.proofs.Refused.{faulty_next}
+use Rattle.keys_sketches.specs.Shards.{AreRead}
 use Rattle.distinct_commands.specs.Answers.{AreShownByName, AreShown, IsExpected, IsIntersectionImage, intersection_of}
 use Rattle.distinct_inputs.specs.Failures.{called, AreCounted, IsOfImages}
 use Rattle.distinct_inputs.specs.declared.failure.Failure.{Failure}

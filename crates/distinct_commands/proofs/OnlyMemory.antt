@@ -12,12 +12,12 @@ use Rattle.core_laws.specs.Values.{Sketch}
 use Rattle.core_laws.specs.declared.TheConstants.{MAX_THETA}
 use Rattle.core_operators.specs.Intersection.{is_settled, seed_refusal}
 use Rattle.core_laws.specs.Settings.{settings_refusal}
-use Rattle.line_sketches.specs.Meeting.{first_refusal, meet_refusal, refusal_of_intersection}
-use Rattle.line_sketches.specs.Refusals.{IsUnread, IsUniteRefusal}
-use Rattle.line_sums.specs.Operands.{IsUnreadSums}
-use Rattle.line_sums.specs.Unions.{IsUniteSumsRefusal, HasNoSums}
-use Rattle.line_sketches.specs.declared.sketching.Unread.{Unread}
-use Rattle.line_sketches.specs.declared.sketching.Unread.TheVariants.{Refused, Failed}
+use Rattle.keys_sketches.specs.Meeting.{first_refusal, meet_refusal, refusal_of_intersection}
+use Rattle.keys_sketches.specs.Refusals.{IsUnread, IsUniteRefusal}
+use Rattle.keys_sums.specs.Operands.{IsUnreadSums}
+use Rattle.keys_sums.specs.Unions.{IsUniteSumsRefusal, HasNoSums}
+use Rattle.keys_sketches.specs.declared.sketching.Unread.{Unread}
+use Rattle.keys_sketches.specs.declared.sketching.Unread.TheVariants.{Refused, Failed}
 use Rattle.distinct_inputs.specs.Failures.{IsOfUniting}
 use Rattle.distinct_inputs.specs.Images.{HasNoSketch}
 use Rattle.distinct_inputs.specs.Seeds.{AreSeeded}

@@ -12,17 +12,17 @@ use Rattle.core_laws.specs.Samples.{IsSample, AreSamples}
 use Rattle.core_laws.specs.Settings.{settings_refusal}
 use Rattle.core_laws.specs.Values.{Sketch}
 use Rattle.core_laws.specs.declared.TheConstants.{MAX_THETA}
-use Rattle.lines.specs.Lines.{lines_of}
-use Rattle.line_sketches.specs.Keys.{key_set}
-use Rattle.line_sketches.specs.Shards.{sketches_of_texts}
-use Rattle.line_sketches.proofs.Shards.{sample}
-use Rattle.line_sketches.proofs.Rereads.{value_again}
+use Rattle.keys_lines.specs.Lines.{lines_of}
+use Rattle.keys_sketches.specs.Keys.{key_set}
+use Rattle.keys_sketches.specs.Shards.{sketches_of_texts}
+use Rattle.keys_sketches.proofs.Shards.{sample}
+use Rattle.keys_sketches.proofs.Rereads.{value_again}
 use Rattle.expression_text.specs.declared.operator.Step.{Step}
 use Rattle.expression_text.specs.Expressions.{Expression, postfix, HasIndicesBelow}
-use Rattle.set_expressions.specs.Values.{Rules, hash_rules, expression_value, hashes_value, set_of}
-use Rattle.set_expressions.specs.Running.{values_of, values_by, after_steps, only_value, are_accepted, refusal_by, IsEvaluationError}
-use Rattle.set_expressions.proofs.RunSteps.{expression_result, one_result}
-use Rattle.set_expressions.proofs.WholeSets.{expression_sample}
+use Rattle.expression_evaluation.specs.Values.{Rules, hash_rules, expression_value, hashes_value, set_of}
+use Rattle.expression_evaluation.specs.Running.{values_of, values_by, after_steps, only_value, are_accepted, refusal_by, IsEvaluationError}
+use Rattle.expression_evaluation.proofs.RunSteps.{expression_result, one_result}
+use Rattle.expression_evaluation.proofs.WholeSets.{expression_sample}
 use Rattle.distinct_arguments.specs.Settings.{OptionValues}
 use Rattle.distinct_inputs.specs.Failures.{chosen_hashing}
 use Rattle.distinct_commands.specs.Eval.{AreOperands, AreWholeSets}

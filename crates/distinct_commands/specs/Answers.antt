@@ -6,21 +6,21 @@ use Rattle.core_laws.specs.Entries.{hash_key, first_hash}
 use Rattle.core_laws.specs.Operators.{meet, minus}
 use Rattle.theta_sketches.specs.Image.{Reads, written}
 use Rattle.sketch_base.specs.Seed.{seed_hash}
-use Rattle.lines.specs.Lines.{lines_of_all}
-use Rattle.line_sketches.specs.Keys.{value_of_lines, sketch_of_value}
-use Rattle.line_sketches.specs.Shards.{values_of_sketches, AreRead}
-use Rattle.line_sketches.specs.Unions.{IsUnitedImage, UnitesTexts}
-use Rattle.line_sums.specs.Unions.{IsUnitedSumsImage, UnitesSumsOfTexts}
-use Rattle.line_sums.specs.declared.addends.Amount.{Amount}
+use Rattle.keys_lines.specs.Lines.{lines_of_all}
+use Rattle.keys_sketches.specs.Keys.{value_of_lines, sketch_of_value}
+use Rattle.keys_sketches.specs.Shards.{values_of_sketches, AreRead}
+use Rattle.keys_sketches.specs.Unions.{IsUnitedImage, UnitesTexts}
+use Rattle.keys_sums.specs.Unions.{IsUnitedSumsImage, UnitesSumsOfTexts}
+use Rattle.keys_sums.specs.declared.addends.Amount.{Amount}
 use Rattle.distinct_arguments.specs.Settings.{OptionValues, chosen_group, chosen_value}
-use Rattle.grouped_lines.specs.United.{IsUnitedText}
+use Rattle.keys_groups.specs.United.{IsUnitedText}
 use Rattle.distinct_arguments.specs.Arguments.{Action, prints, runs, fails}
 use Rattle.distinct_arguments.specs.Texts.{text_of}
 use Rattle.distinct_inputs.specs.Failures.{called, chosen_amount, chosen_hashing, unites_groups, unites_sums}
 use Rattle.distinct_commands.specs.Eval.{IsEvaluatedOf}
 use Rattle.distinct_inputs.specs.Images.{images_of, in_form}
 use Rattle.distinct_commands.specs.Groups.{IsGroupedText}
-use Rattle.lines.specs.declared.key.Key.{Key}
+use Rattle.keys_lines.specs.declared.key.Key.{Key}
 use Rattle.distinct_commands.specs.Texts.{count_text, shown_text, head_of}
 use Rattle.distinct_commands.specs.Sums.{IsSumsText, IsTotalText}
 use Rattle.distinct_commands.specs.Visits.{IsVisitsText}

@@ -5,13 +5,13 @@ use Rattle.core_compact.specs.CompactState.{Compact, ordered_sketch}
 use Rattle.core_laws.specs.Entries.{hash_key}
 use Rattle.core_laws.specs.Samples.{IsSample, AreSamples}
 use Rattle.theta_sketches.specs.Image.{written}
-use Rattle.lines.specs.Lines.{lines_of}
-use Rattle.line_sketches.specs.Keys.{key_set, value_of_lines, sketch_of_value}
-use Rattle.line_sketches.specs.Shards.{AreRead, sketches_of_texts}
+use Rattle.keys_lines.specs.Lines.{lines_of}
+use Rattle.keys_sketches.specs.Keys.{key_set, value_of_lines, sketch_of_value}
+use Rattle.keys_sketches.specs.Shards.{AreRead, sketches_of_texts}
 use Rattle.expression_text.specs.declared.operator.Step.{Step}
 use Rattle.expression_text.specs.Grammar.{IsExpressionText}
-use Rattle.set_expressions.specs.Values.{hashes_value, set_of}
-use Rattle.set_expressions.specs.Running.{values_of}
+use Rattle.expression_evaluation.specs.Values.{hashes_value, set_of}
+use Rattle.expression_evaluation.specs.Running.{values_of}
 use Rattle.distinct_arguments.specs.Settings.{OptionValues}
 use Rattle.distinct_commands.specs.EvalSums.{IsSumsEvaluated}
 use Rattle.distinct_inputs.specs.Failures.{chosen_hashing}

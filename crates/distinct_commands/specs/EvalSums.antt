@@ -5,11 +5,11 @@ use Rattle.core_compact.specs.CompactState.{Compact, ordered_sketch}
 use Rattle.core_laws.specs.Samples.{IsSample, AreSamples}
 use Rattle.core_slots.specs.Entry.{tuple_key}
 use Rattle.core_slots.specs.declared.entry.TupleEntry.{TupleEntry}
-use Rattle.line_sums.specs.Images.{AreReadSums, written_sums}
+use Rattle.keys_sums.specs.Images.{AreReadSums, written_sums}
 use Rattle.expression_text.specs.declared.operator.Step.{Step}
 use Rattle.expression_text.specs.Grammar.{IsExpressionText}
-use Rattle.set_expressions.specs.Values.{sums_value, whole_sums_in}
-use Rattle.set_expressions.specs.Running.{sums_values}
+use Rattle.expression_evaluation.specs.Values.{sums_value, whole_sums_in}
+use Rattle.expression_evaluation.specs.Running.{sums_values}
 use Rattle.distinct_arguments.specs.Settings.{OptionValues}
 use Rattle.distinct_inputs.specs.Images.{images_of, in_form}
 use Rattle.distinct_commands.specs.Sums.{total_text}

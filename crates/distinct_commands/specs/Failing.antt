@@ -4,11 +4,11 @@ use Rattle.std.specs.Prelude.{codes, string_bytes}
 use Rattle.std.specs.Option.{option_map}
 use Rattle.core_compact.specs.CompactState.{Compact}
 use Rattle.core_slots.specs.declared.entry.TupleEntry.{TupleEntry}
-use Rattle.line_sums.specs.Images.{AreReadSums}
+use Rattle.keys_sums.specs.Images.{AreReadSums}
 use Rattle.expression_text.specs.Grammar.{IsExpressionText, SpellsNothing}
 use Rattle.expression_text.specs.declared.operator.Step.{Step}
-use Rattle.set_expressions.specs.Values.{sum_rules}
-use Rattle.set_expressions.specs.Running.{sums_values, MayRefuse}
+use Rattle.expression_evaluation.specs.Values.{sum_rules}
+use Rattle.expression_evaluation.specs.Running.{sums_values, MayRefuse}
 use Rattle.distinct_arguments.specs.Arguments.{Action, prints, runs, fails}
 use Rattle.distinct_arguments.specs.Settings.{OptionValues}
 use Rattle.distinct_arguments.specs.declared.commands.Command.{Command}

@@ -3,14 +3,14 @@ use Rattle.std.specs.Prelude.{ℕ, ◌≡◌, ◌++◌, Bool, true, false, List,
 use Rattle.std.specs.Str.Lossy.{utf8_lossy}
 use Rattle.core_compact.specs.CompactState.{Compact}
 use Rattle.theta_sketches.specs.Image.{written}
-use Rattle.reports.specs.declared.report.Report.{Report}
-use Rattle.reports.specs.Forms.{count_line, json_line, tsv_row}
-use Rattle.lines.specs.Lines.{lines_of_all}
-use Rattle.lines.specs.declared.key.Key.{Key}
-use Rattle.grouped_lines.specs.Groups.{AreGroups, group_sketch}
-use Rattle.grouped_lines.specs.Ranked.{AreRanked}
-use Rattle.grouped_lines.specs.United.{image_line}
-use Rattle.grouped_lines.specs.declared.groups.Grouping.{Grouping}
+use Rattle.keys_reports.specs.declared.report.Report.{Report}
+use Rattle.keys_reports.specs.Forms.{count_line, json_line, tsv_row}
+use Rattle.keys_lines.specs.Lines.{lines_of_all}
+use Rattle.keys_lines.specs.declared.key.Key.{Key}
+use Rattle.keys_groups.specs.Groups.{AreGroups, group_sketch}
+use Rattle.keys_groups.specs.Ranked.{AreRanked}
+use Rattle.keys_groups.specs.United.{image_line}
+use Rattle.keys_groups.specs.declared.groups.Grouping.{Grouping}
 use Rattle.distinct_arguments.specs.Settings.{OptionValues}
 use Rattle.distinct_arguments.specs.declared.options.Order.{Order}
 use Rattle.distinct_arguments.specs.declared.options.Order.TheVariants.{Name, Estimate}

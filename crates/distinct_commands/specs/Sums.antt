@@ -3,13 +3,13 @@ use Rattle.std.specs.Prelude.{ℕ, ◌≡◌, ◌++◌, List, Option, Some, None
 use Rattle.sketch_base.specs.Seed.{seed_hash}
 use Rattle.core_compact.specs.CompactState.{Compact}
 use Rattle.core_slots.specs.declared.entry.TupleEntry.{TupleEntry}
-use Rattle.lines.specs.Lines.{lines_of_all}
-use Rattle.lines.specs.declared.key.Key.{Key}
-use Rattle.line_sums.specs.Amounts.{added_by, AreNumbers}
-use Rattle.line_sums.specs.Images.{written_sums, ReadsSums}
-use Rattle.line_sums.specs.Sums.{sketch_of_sums}
-use Rattle.line_sums.specs.declared.addends.Amount.{Amount}
-use Rattle.line_sums.specs.declared.addends.Amount.TheVariants.{Number}
+use Rattle.keys_lines.specs.Lines.{lines_of_all}
+use Rattle.keys_lines.specs.declared.key.Key.{Key}
+use Rattle.keys_sums.specs.Amounts.{added_by, AreNumbers}
+use Rattle.keys_sums.specs.Images.{written_sums, ReadsSums}
+use Rattle.keys_sums.specs.Sums.{sketch_of_sums}
+use Rattle.keys_sums.specs.declared.addends.Amount.{Amount}
+use Rattle.keys_sums.specs.declared.addends.Amount.TheVariants.{Number}
 use Rattle.totals.specs.Forms.{total_json_line, total_line, total_tsv_head, total_tsv_row}
 use Rattle.totals.specs.Totals.{total_of}
 use Rattle.totals.specs.declared.total.Total.{Total}

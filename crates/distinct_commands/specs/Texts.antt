@@ -4,9 +4,9 @@ use Rattle.core_compact.specs.CompactState.{Compact}
 use Rattle.estimates.specs.Bounds.{deviation_count}
 use Rattle.estimates.specs.declared.bounds.Deviations.{Deviations}
 use Rattle.estimates.specs.declared.bounds.Deviations.TheVariants.{Two}
-use Rattle.reports.specs.declared.report.Report.{Report}
-use Rattle.reports.specs.Reports.{report_of}
-use Rattle.reports.specs.Forms.{count_line, json_line, shown_line, tsv_head, tsv_row}
+use Rattle.keys_reports.specs.declared.report.Report.{Report}
+use Rattle.keys_reports.specs.Reports.{report_of}
+use Rattle.keys_reports.specs.Forms.{count_line, json_line, shown_line, tsv_head, tsv_row}
 use Rattle.distinct_arguments.specs.Settings.{OptionValues}
 use Rattle.distinct_arguments.specs.declared.options.Form.{Form}
 use Rattle.distinct_arguments.specs.declared.options.Form.TheVariants.{Plain, Tsv, Json}

@@ -2,16 +2,16 @@
 use Rattle.std.specs.Prelude.{ℕ, zero, suc, ◌≡◌, ◌++◌, nat_le, Bool, true, false, List, [], is_some, if◌then◌else◌}
 use Rattle.core_compact.specs.CompactState.{Compact}
 use Rattle.core_slots.specs.declared.entry.TupleEntry.{TupleEntry}
-use Rattle.lines.specs.Keys.{hashing_of}
-use Rattle.lines.specs.Lines.{lines_of_all}
-use Rattle.lines.specs.declared.key.Key.{Key}
-use Rattle.line_sums.specs.Bins.{least_of, greatest_of, greatest, sums_in, keys_in}
-use Rattle.line_sums.specs.Images.{AreImagesOfTexts}
-use Rattle.line_sums.specs.Sums.{one_each, sketch_of_sums}
-use Rattle.line_sums.specs.Unions.{IsUnitedSums}
-use Rattle.line_sums.specs.declared.bins.TheConstants.{BINS}
-use Rattle.reports.specs.Ranges.{range_json_line, range_line, range_tsv_head, range_tsv_row}
-use Rattle.reports.specs.declared.report.Report.{Report}
+use Rattle.keys_lines.specs.Keys.{hashing_of}
+use Rattle.keys_lines.specs.Lines.{lines_of_all}
+use Rattle.keys_lines.specs.declared.key.Key.{Key}
+use Rattle.keys_sums.specs.Bins.{least_of, greatest_of, greatest, sums_in, keys_in}
+use Rattle.keys_sums.specs.Images.{AreImagesOfTexts}
+use Rattle.keys_sums.specs.Sums.{one_each, sketch_of_sums}
+use Rattle.keys_sums.specs.Unions.{IsUnitedSums}
+use Rattle.keys_sums.specs.declared.bins.TheConstants.{BINS}
+use Rattle.keys_reports.specs.Ranges.{range_json_line, range_line, range_tsv_head, range_tsv_row}
+use Rattle.keys_reports.specs.declared.report.Report.{Report}
 use Rattle.distinct_arguments.specs.Settings.{OptionValues}
 use Rattle.distinct_arguments.specs.declared.options.Form.{Form}
 use Rattle.distinct_arguments.specs.declared.options.Form.TheVariants.{Plain, Tsv, Json}
@@ -51,7 +51,7 @@ bins_text options s most zero = []
 bins_text options s most (suc bin) = bins_text options s most bin ++ bin_up_to options s most bin
 
 -- What `visits` prints of a sketch of sums. Each sum from 1 to 2^64 - 1 is in exactly one bin below `BINS` (IsInOneBin), by a law
--- of line_sums.
+-- of keys_sums.
 unfoldable pub visits_text : OptionValues → Compact (TupleEntry ℕ) → List ℕ
 visits_text options s = ranges_head options.form ++ bins_text options s (greatest (sums_in s)) BINS
 

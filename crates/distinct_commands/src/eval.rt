@@ -3,11 +3,11 @@ ghost use Rattle.std.specs.Prelude.{◌≡◌, ◌≢◌, ℕ, false, List, leng
 ghost use Rattle.sketch_base.specs.Seed.{seed_hash};
 ghost use Rattle.core_laws.specs.Settings.{settings_refusal};
 ghost use Rattle.core_laws.specs.declared.TheConstants.{MAX_THETA};
-ghost use Rattle.line_sketches.specs.Refusals.{RefusesRead};
+ghost use Rattle.keys_sketches.specs.Refusals.{RefusesRead};
 ghost use Rattle.expression_text.specs.Grammar.{IsExpressionText};
-ghost use Rattle.set_expressions.specs.Values.{hashes_value};
+ghost use Rattle.expression_evaluation.specs.Values.{hashes_value};
 ghost use Rattle.core_compact.specs.CompactState.{ordered_sketch};
-ghost use Rattle.set_expressions.specs.Running.{values_of};
+ghost use Rattle.expression_evaluation.specs.Running.{values_of};
 ghost use Rattle.distinct_arguments.specs.Faults.{options_of};
 ghost use Rattle.distinct_inputs.specs.Lists.{names_of};
 ghost use Rattle.distinct_commands.specs.Eval.{sketch_of_text, SketchesNext, AreSketchesOfTexts, AreOperands, IsEvaluated, IsEvaluatedBy, evaluated_text};
@@ -24,9 +24,9 @@ use crate::job::Job;
 use crate::show::{head_of, shown_text};
 use distinct_arguments::Options;
 use distinct_inputs::{Console, Failure, Images, Inputs, out_of_memory};
-use line_sketches::{BLOCK, Sources, TextReader, Unread, sketch_lines};
-use lines::Hashing;
-use set_expressions::evaluate;
+use expression_evaluation::evaluate;
+use keys_lines::Hashing;
+use keys_sketches::{BLOCK, Sources, TextReader, Unread, sketch_lines};
 use std::alloc::Global;
 use theta_sketches::CompactThetaSketch;
 

@@ -1,13 +1,13 @@
 //! What `count` prints and `sketch` writes of groups of lines.
 ghost use Rattle.std.specs.Prelude.{◌≡◌, ◌≢◌, ◌++◌, ℕ, List, IfOk, IfErr, IfSome, string_bytes};
 ghost use Rattle.sketch_base.specs.Seed.{seed_hash};
-ghost use Rattle.lines.specs.Lines.{lines_of_all};
-ghost use Rattle.grouped_lines.specs.Groups.{HasGroups, AreLeft};
-ghost use Rattle.grouped_lines.specs.declared.groups.Grouping.{Grouping};
+ghost use Rattle.keys_lines.specs.Lines.{lines_of_all};
+ghost use Rattle.keys_groups.specs.Groups.{HasGroups, AreLeft};
+ghost use Rattle.keys_groups.specs.declared.groups.Grouping.{Grouping};
 ghost use Rattle.distinct_arguments.specs.Faults.{options_of};
 ghost use Rattle.distinct_inputs.specs.Failures.{IsOfReading, UnreadableIf};
-ghost use Rattle.grouped_lines.specs.Ranked.{AreRanked};
-ghost use Rattle.grouped_lines.specs.Files.{AreFilesOf};
+ghost use Rattle.keys_groups.specs.Ranked.{AreRanked};
+ghost use Rattle.keys_groups.specs.Files.{AreFilesOf};
 ghost use Rattle.distinct_commands.specs.Groups.{grouping_of, group_text, group_line, groups_text, groups_head};
 ghost use Rattle.distinct_commands.specs.Groups.{group_estimate, chosen_order, AreOrdered};
 ghost use Rattle.distinct_commands.specs.Texts.{report_by};
@@ -18,12 +18,12 @@ use crate::job::Job;
 use crate::show::{chosen_deviations, head_of};
 use distinct_arguments::{Form, Options, Order};
 use distinct_inputs::{Console, Failure, Inputs, out_of_memory};
-use grouped_lines::{
+use keys_groups::{
     Group, GroupFile, Grouping, Groups, Ranked, files_of, group_sources, image_line, ranked_text,
 };
-use line_sketches::{Sources, Unread};
-use lines::{Hashing, Key};
-use reports::{count_line, json_line, report_of, tsv_row};
+use keys_lines::{Hashing, Key};
+use keys_reports::{count_line, json_line, report_of, tsv_row};
+use keys_sketches::{Sources, Unread};
 use std::alloc::{AllocError, Global};
 use theta_sketches::CompactThetaSketch;
 

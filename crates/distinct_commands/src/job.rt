@@ -2,7 +2,7 @@
 
 use distinct_arguments::Options;
 use distinct_inputs::Inputs;
-use line_sketches::Sources;
+use keys_sketches::Sources;
 use std::alloc::Global;
 
 /// The options of a command, the seed of its hashes, and the sources that it reads.

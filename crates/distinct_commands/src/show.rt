@@ -12,8 +12,8 @@ use crate::job::Job;
 use distinct_arguments::{Form, Options};
 use distinct_inputs::{Failure, Images, called};
 use estimates::Deviations;
-use line_sketches::Sources;
-use reports::{count_line, json_line, report_of, shown_line, tsv_head, tsv_row};
+use keys_reports::{count_line, json_line, report_of, shown_line, tsv_head, tsv_row};
+use keys_sketches::Sources;
 use std::alloc::{AllocError, Global};
 use theta_sketches::CompactThetaSketch;
 

@@ -1,16 +1,16 @@
 //! What `union` writes of images by groups.
 ghost use Rattle.std.specs.Prelude.{◌≡◌, ◌≢◌, ◌≤◌, ◌<◌, ◌^◌, ℕ, List, Option, IfOk, IfErr, IfSome, IfNone, Bool};
 ghost use Rattle.sketch_base.specs.Seed.{seed_hash};
-ghost use Rattle.lines.specs.Lines.{lines_of_all};
-ghost use Rattle.grouped_lines.specs.United.{HasFirstFlawed, IsUnitedText};
+ghost use Rattle.keys_lines.specs.Lines.{lines_of_all};
+ghost use Rattle.keys_groups.specs.United.{HasFirstFlawed, IsUnitedText};
 ghost use Rattle.distinct_arguments.specs.Faults.{options_of};
 ghost use Rattle.distinct_inputs.specs.Failures.{unites_groups, IsOfGroups, ReportsFlawed, UnreadableIf};
 
 use crate::job::Job;
 use distinct_arguments::{Operator, Options};
 use distinct_inputs::{Coarser, Console, Failure, Remark, out_of_memory};
-use grouped_lines::{LineFlaw, Ununited, unite_groups, united_text};
-use line_sketches::Sources;
+use keys_groups::{LineFlaw, Ununited, unite_groups, united_text};
+use keys_sketches::Sources;
 use std::alloc::Global;
 
 /// Whether images are united by the groups of their lines.

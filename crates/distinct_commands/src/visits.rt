@@ -1,9 +1,9 @@
 //! What `visits` prints: how many keys occur once, twice, 3 to 4 times, and so on, in lines or in images of sums.
 ghost use Rattle.std.specs.Prelude.{◌≡◌, ◌≢◌, ◌<◌, ◌++◌, true, IfOk, IfErr, IfSome, OnOk, string_bytes};
 ghost use Rattle.sketch_base.specs.Seed.{seed_hash};
-ghost use Rattle.line_sums.specs.declared.addends.Amount.TheVariants.{One};
+ghost use Rattle.keys_sums.specs.declared.addends.Amount.TheVariants.{One};
 ghost use Rattle.distinct_arguments.specs.Faults.{options_of};
-ghost use Rattle.line_sums.specs.Unions.{IsUnitedSums, AreSumsOfTexts};
+ghost use Rattle.keys_sums.specs.Unions.{IsUnitedSums, AreSumsOfTexts};
 ghost use Rattle.distinct_inputs.specs.Failures.{images_in, IsOfEitherUnion, IsOfSums, IsOfUniting, IsOfVisits, UnreadableIf};
 ghost use Rattle.distinct_inputs.specs.Images.{images_of, remaining_images};
 ghost use Rattle.distinct_commands.specs.Visits.{visits_of, ranges_head, bin_text, bin_up_to, visits_text, IsVisitsOfImages, IsVisitsText};
@@ -13,11 +13,11 @@ use crate::job::Job;
 use crate::show::chosen_deviations;
 use distinct_arguments::{Form, Options};
 use distinct_inputs::{Console, Failure, Images};
-use line_sketches::{Sources, Unread};
-use line_sums::{
+use keys_reports::{range_json_line, range_line, range_tsv_head, range_tsv_row, report_of_part};
+use keys_sketches::{Sources, Unread};
+use keys_sums::{
     Amount, BINS, UnionOfSums, count_in, greatest_of, greatest_sum, least_of, union_of_sums,
 };
-use reports::{range_json_line, range_line, range_tsv_head, range_tsv_row, report_of_part};
 use std::alloc::{AllocError, Global};
 use tuple_sketches::CompactTupleSketch;
 
@@ -79,7 +79,7 @@ fn put_bin(
 }
 
 /// What is printed of a sketch of sums: a line for each bin up to that of the greatest sum. Each sum from 1 to 2^64 - 1 is in
-/// exactly one bin (`line_sums::laws::numbers_are_in_one_bin`), so each retained key that occurs is counted in exactly one line.
+/// exactly one bin (`keys_sums::laws::numbers_are_in_one_bin`), so each retained key that occurs is counted in exactly one line.
 fn visits_text(
     alloc: Global,
     options: &Options<'_>,

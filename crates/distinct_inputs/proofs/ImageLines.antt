@@ -12,8 +12,8 @@ use Rattle.std.specs.Io.Buffered.{reader_remaining, reader_inner, reader_buffer,
 use Rattle.std.specs.declared.io.buffered.BufReader.{BufReader}
 use Rattle.std.proofs.lemmas.Bool.{cond_both}
 use Rattle.std.proofs.lemmas.Str.Ascii.{trim_ascii_is}
-use Rattle.line_sketches.specs.Hex.{bytes_of_hex}
-use Rattle.line_sketches.specs.Sources.{GivesNext}
+use Rattle.keys_sketches.specs.Hex.{bytes_of_hex}
+use Rattle.keys_sketches.specs.Sources.{GivesNext}
 use Rattle.distinct_inputs.specs.Images.{alone, count_of, is_followed, ended_lines, line_image, line_images, or_none, images_behind, images_in_lines, parts_left, open_text, GivesOrCloses}
 
 -- the first line of a text, and the lines after it

@@ -2,7 +2,7 @@
 use Rattle.std.proofs.Common.{map, min, ◌≡◌, ◌+◌, ◌-◌, ◌^◌, ℕ, suc, false, eqb, List, [], ◌∷◌, ◌++◌, length, refl, sym, ap, subst, ◌∙◌, append-nil, arith}
 use Rattle.std.specs.List.{onto_first}
 use Rattle.std.proofs.lemmas.Bool.{ne_eqb}
-use Rattle.lines.specs.Lines.{Lacks}
+use Rattle.keys_lines.specs.Lines.{Lacks}
 use Rattle.std.specs.List.{AllByRecursion}
 use Rattle.std.specs.Prelude.{String, string_bytes}
 use Rattle.std.proofs.lemmas.List.{length-map}

@@ -4,17 +4,17 @@ use Rattle.std.specs.Option.{option_map}
 use Rattle.std.specs.Str.{bytes_eq}
 use Rattle.sketch_base.specs.declared.error.ErrorKind.TheVariants.{OutOfMemory, InvalidData, Policy}
 use Rattle.sketch_base.specs.Seed.{seed_hash}
-use Rattle.lines.specs.Lines.{lines_of, lines_of_all}
-use Rattle.lines.specs.declared.key.Hashing.{Hashing}
-use Rattle.lines.specs.declared.key.Key.{Key}
-use Rattle.line_sketches.specs.Refusals.{HasFault}
-use Rattle.line_sketches.specs.declared.header.Flaw.TheVariants.{Damaged}
-use Rattle.line_sketches.specs.declared.sketching.Unread.{Unread}
-use Rattle.line_sketches.specs.declared.sketching.Unread.TheVariants.{Refused, Failed}
-use Rattle.line_sums.specs.Amounts.{added_by}
-use Rattle.line_sums.specs.Refusals.{HasNoNumberAt, IsPast}
-use Rattle.line_sums.specs.declared.addends.Amount.{Amount}
-use Rattle.line_sums.specs.declared.addends.Amount.TheVariants.{One, Number}
+use Rattle.keys_lines.specs.Lines.{lines_of, lines_of_all}
+use Rattle.keys_lines.specs.declared.key.Hashing.{Hashing}
+use Rattle.keys_lines.specs.declared.key.Key.{Key}
+use Rattle.keys_sketches.specs.Refusals.{HasFault}
+use Rattle.keys_sketches.specs.declared.header.Flaw.TheVariants.{Damaged}
+use Rattle.keys_sketches.specs.declared.sketching.Unread.{Unread}
+use Rattle.keys_sketches.specs.declared.sketching.Unread.TheVariants.{Refused, Failed}
+use Rattle.keys_sums.specs.Amounts.{added_by}
+use Rattle.keys_sums.specs.Refusals.{HasNoNumberAt, IsPast}
+use Rattle.keys_sums.specs.declared.addends.Amount.{Amount}
+use Rattle.keys_sums.specs.declared.addends.Amount.TheVariants.{One, Number}
 use Rattle.distinct_arguments.specs.Faults.{fault_status}
 use Rattle.distinct_arguments.specs.declared.fault.Fault.TheVariants.{LoneSum, ZeroSeed}
 use Rattle.distinct_arguments.specs.Settings.{chosen_key, chosen_value}
@@ -26,9 +26,9 @@ use Rattle.distinct_inputs.specs.Seeds.{seed_in}
 use Rattle.distinct_inputs.specs.declared.images.Images.{Images}
 use Rattle.distinct_arguments.specs.declared.commands.Operator.{Operator}
 use Rattle.distinct_arguments.specs.declared.commands.Operator.TheVariants.{Union, Meet, Minus}
-use Rattle.grouped_lines.specs.United.{HasFirstFlawed}
-use Rattle.grouped_lines.specs.declared.united.LineFlaw.{LineFlaw}
-use Rattle.grouped_lines.specs.declared.united.LineFlaw.TheVariants.{NoTab as NoTabAtAll, NoHex as NoDigits, NoImage}
+use Rattle.keys_groups.specs.United.{HasFirstFlawed}
+use Rattle.keys_groups.specs.declared.united.LineFlaw.{LineFlaw}
+use Rattle.keys_groups.specs.declared.united.LineFlaw.TheVariants.{NoTab as NoTabAtAll, NoHex as NoDigits, NoImage}
 use Rattle.distinct_inputs.specs.declared.failure.Failure.{Failure}
 use Rattle.distinct_inputs.specs.declared.failure.Failure.TheVariants.{NotText, Arguments, NoFiles, NotTwo, NoExpression, NoDir, NoName, NoNul, NoSeed, Terminal, WrongCount, Memory, Unreadable, NoSketch, NoSums, NoHex, NoTab, NoLine, PastGreatest, PastUnion, NotANumber, NotWritten}
 

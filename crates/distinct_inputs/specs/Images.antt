@@ -6,13 +6,13 @@ use Rattle.std.specs.declared.io.buffered.BufReader.{BufReader}
 use Rattle.std.specs.List.{onto_first, prefix_len, suffix_len}
 use Rattle.std.specs.Char.{is_ascii_whitespace}
 use Rattle.sketch_base.specs.Seed.{seed_hash}
-use Rattle.line_sketches.specs.Hex.{hex_of, bytes_of_hex}
-use Rattle.line_sketches.specs.Header.{image_length, entry_count, flaw_of}
-use Rattle.line_sketches.specs.Refusals.{IsNoImage, HasFault}
-use Rattle.line_sketches.specs.Sources.{GivesNext}
-use Rattle.line_sketches.specs.SumsHeader.{sums_length, sums_count, sums_flaw_of}
-use Rattle.line_sums.specs.Unions.{AreNoSums}
-use Rattle.line_sketches.specs.declared.header.Flaw.{Flaw}
+use Rattle.keys_sketches.specs.Hex.{hex_of, bytes_of_hex}
+use Rattle.keys_sketches.specs.Header.{image_length, entry_count, flaw_of}
+use Rattle.keys_sketches.specs.Refusals.{IsNoImage, HasFault}
+use Rattle.keys_sketches.specs.Sources.{GivesNext}
+use Rattle.keys_sketches.specs.SumsHeader.{sums_length, sums_count, sums_flaw_of}
+use Rattle.keys_sums.specs.Unions.{AreNoSums}
+use Rattle.keys_sketches.specs.declared.header.Flaw.{Flaw}
 use Rattle.distinct_inputs.specs.declared.images.Images.{Images}
 use Rattle.core_compact.specs.CompactState.{Compact}
 use Rattle.theta_sketches.specs.Image.{Reads}

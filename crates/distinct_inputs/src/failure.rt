@@ -7,7 +7,7 @@ ghost use Rattle.distinct_inputs.specs.declared.failure.Failure.TheVariants as f
 
 use distinct_arguments::{Escaped, Fault};
 use expression_text::{MAX_LEVELS, Reason, SyntaxFault};
-use line_sketches::Flaw;
+use keys_sketches::Flaw;
 use sketch_base::Error;
 use std::alloc::{AllocError, AllocFailed};
 use std::{fmt, io};

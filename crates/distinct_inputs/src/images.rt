@@ -2,7 +2,7 @@
 //! allowed around it.
 ghost use Rattle.std.specs.Prelude.{◌≡◌, ◌≤◌, ◌<◌, ◌^◌, ℕ, List, Option, true, false, Some, None, IfOk, IfSome, IfNone, OnOk, max, nat_lt, if◌then◌else◌, Bool};
 ghost use Rattle.sketch_base.specs.Seed.{seed_hash};
-ghost use Rattle.line_sketches.specs.Sources.{GivesNext};
+ghost use Rattle.keys_sketches.specs.Sources.{GivesNext};
 ghost use Rattle.distinct_inputs.specs.Images.{remaining_images, remaining_parts, alone, image_flaw, is_followed, length_of, count_of, line_image};
 ghost use Rattle.distinct_inputs.specs.Images.{CountsLine, HasNoSketch, IsAlone, GivesOrCloses, IsSameReader};
 ghost use Rattle.distinct_inputs.specs.Failures.{called, IsOfImages, IsOfReading, NotesNext, ReportsUnreadable, ReportsNoSketch, ReportsPastUnion, UnreadableIf};
@@ -10,7 +10,7 @@ ghost use Rattle.distinct_inputs.specs.Failures.{called, IsOfImages, IsOfReading
 use crate::failure::Failure;
 use crate::inputs::Inputs;
 use crate::remarks::Coarser;
-use line_sketches::{
+use keys_sketches::{
     Flaw, Sources, entry_count, flaw_of, image_length, read_hex, sums_count, sums_flaw_of,
     sums_length,
 };

@@ -1,12 +1,12 @@
 //! The files that the program reads.
 ghost use Rattle.std.specs.Prelude.{◌≡◌, Bool, true, false, None, Some, IfOk, IfErr, IfSome, OnOk};
-ghost use Rattle.line_sketches.specs.Sources.{GivesNext};
+ghost use Rattle.keys_sketches.specs.Sources.{GivesNext};
 ghost use Rattle.distinct_inputs.specs.Failures.{called, IsOfList, IsOfReading, NotesNext, ReportsUnreadable, UnreadableIf};
 ghost use Rattle.distinct_inputs.specs.Lists.{are_lines, names_in, names_of};
 
 use crate::failure::Failure;
 use crate::lists::{Unlisted, names_in};
-use line_sketches::{Sources, TextReader};
+use keys_sketches::{Sources, TextReader};
 use std::alloc::Global;
 use std::fs::File;
 use std::io::{IsTerminal, Read};

@@ -2,7 +2,7 @@
 ghost use Rattle.std.specs.Prelude.{◌≡◌, ◌++◌, ◌∷◌, [], length, IfOk, IfErr, OnOk};
 ghost use Rattle.distinct_inputs.specs.Lists.{names_of, texts_of, names_in, IsName, IsNotPut, IsUnlisted};
 
-use lines::cut_at;
+use keys_lines::cut_at;
 use std::alloc::{AllocError, AllocFailed, Global};
 
 /// Why a list is not read.

@@ -4,7 +4,7 @@ ghost use Rattle.std.specs.Io.KnownBytes.{Appends};
 ghost use Rattle.distinct_inputs.specs.Failures.{IsOfWriting, ReportsNotWritten, UnreadableIf};
 
 use crate::failure::Failure;
-use grouped_lines::GroupFile;
+use keys_groups::GroupFile;
 use std::alloc::Global;
 use std::io;
 use std::io::Write;

@@ -1,9 +1,9 @@
 //! What the program prints beside its answer: remarks on it, and reports of progress.
 
 use distinct_arguments::Escaped;
-use grouped_lines::GroupWatch;
-use line_sketches::Watch;
-use reports::Report;
+use keys_groups::GroupWatch;
+use keys_reports::Report;
+use keys_sketches::Watch;
 use std::fmt;
 
 /// An image retains more hashes than the union keeps.

@@ -9,7 +9,7 @@ ghost use Rattle.distinct_inputs.specs.Failures.{IsOfSeed, IsOfSeedFile, Unreada
 use crate::failure::Failure;
 use crate::inputs::{called, opened, read_whole};
 use distinct_arguments::{Fault, Options, Seed};
-use line_sketches::TextReader;
+use keys_sketches::TextReader;
 use sketch_base::{ErrorKind, compute_seed_hash};
 use std::alloc::Global;
 

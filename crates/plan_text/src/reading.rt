@@ -1,7 +1,7 @@
 //! Reading a whole text.
 ghost use Rattle.std.specs.Prelude.{◌≡◌, ◌+◌, ◌-◌, length, IfOk, IfErr, MatchResult};
 ghost use Rattle.plan_text.specs.Reading.{says, Gives, whole_at, command_at};
-ghost use Rattle.lines.specs.Lines.{lines_of};
+ghost use Rattle.keys_lines.specs.Lines.{lines_of};
 ghost use Rattle.plan_text.specs.Spelling.{Spells};
 ghost use Rattle.plan_text.specs.Faults.{IsFault};
 ghost use Rattle.plan_text.specs.declared.command.Command.{Command as Commands};

@@ -1,6 +1,6 @@
 //! The lines of a text.
 ghost use Rattle.std.specs.Prelude.{◌≡◌, ◌≢◌, ◌<◌, ◌∷◌, ◌++◌, [], ℕ, length, slice_index, IfNone, IfSome, MatchOption};
-ghost use Rattle.lines.specs.Lines.{lines_of};
+ghost use Rattle.keys_lines.specs.Lines.{lines_of};
 
 /// The text before the first byte `at` and the text after it; `None` if there is no such byte.
 pub fn cut(text: &[u8], at: u8) -> Option<(&[u8], &[u8])>

@@ -1,8 +1,8 @@
 //! Reads that fail while lines are sketched or summed: an interrupted read is made again, and after any other failure
 //! nothing more is read.
-use line_sketches::{TextReader, Unread, Watch};
-use line_sums::{Amount, Unsummed};
-use lines::{Hashing, Key};
+use keys_lines::{Hashing, Key};
+use keys_sketches::{TextReader, Unread, Watch};
+use keys_sums::{Amount, Unsummed};
 use sketch_base::Error;
 use std::alloc::{Allocator, Global};
 use std::io;
@@ -66,10 +66,10 @@ struct Ended {
 
 /// How a reader that fails once is sketched.
 fn sketched(alloc: Global, kind: ErrorKind) -> Result<Ended, Error> {
-    let mut sketch = line_sketches::new_sketch(alloc, 9001, 12)?;
+    let mut sketch = keys_sketches::new_sketch(alloc, 9001, 12)?;
     let mut reader = FailsOnce { kind, reads: 0 };
     let mut block = [0u8; 64];
-    let made = line_sketches::add_lines(&mut sketch, LINES, &mut reader, &mut block, &mut Quiet {});
+    let made = keys_sketches::add_lines(&mut sketch, LINES, &mut reader, &mut block, &mut Quiet {});
     let error = match made {
         Ok(()) => None,
         Err(Unread::Failed(error)) => Some(error.kind()),
@@ -84,10 +84,10 @@ fn sketched(alloc: Global, kind: ErrorKind) -> Result<Ended, Error> {
 
 /// How the lines of a reader that fails once are summed.
 fn summed(alloc: Global, kind: ErrorKind) -> Result<Ended, Error> {
-    let mut sketch = line_sums::new_sketch(alloc, 9001, 12)?;
+    let mut sketch = keys_sums::new_sketch(alloc, 9001, 12)?;
     let mut reader = FailsOnce { kind, reads: 0 };
     let mut block = [0u8; 64];
-    let made = line_sums::add_lines(&mut sketch, LINES, Amount::One, &mut reader, &mut block);
+    let made = keys_sums::add_lines(&mut sketch, LINES, Amount::One, &mut reader, &mut block);
     let error = match made {
         Ok(()) => None,
         Err(Unsummed::Failed(error)) => Some(error.kind()),

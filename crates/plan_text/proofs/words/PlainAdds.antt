@@ -4,7 +4,7 @@ use Rattle.std.specs.Prelude.{map}
 use Rattle.std.specs.Str.{all_ascii_digits}
 use Rattle.plan_text.proofs.words.Separators.{Lacks, lines_some, words_some, words_none}
 use Rattle.plan_text.proofs.words.Digits.{digits_lack}
-use Rattle.lines.specs.Lines.{lines_of}
+use Rattle.keys_lines.specs.Lines.{lines_of}
 use Rattle.plan_text.specs.Words.{words, number_of_word}
 use Rattle.plan_text.specs.Lines.{said}
 use Rattle.plan_text.specs.Reading.{says}

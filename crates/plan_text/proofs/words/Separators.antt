@@ -4,7 +4,7 @@ use Rattle.std.specs.List.{onto_first}
 use Rattle.std.proofs.lemmas.Bool.{ne_eqb}
 use Rattle.std.specs.Prelude.{is_some}
 use denote.Ref.{Bor}
-use Rattle.lines.specs.Lines.{lines_of}
+use Rattle.keys_lines.specs.Lines.{lines_of}
 use Rattle.plan_text.specs.Words.{words, more_words}
 use Rattle.plan_text.specs.Lines.{said}
 

@@ -4,8 +4,8 @@ use Rattle.std.proofs.lemmas.Result.{err_from_is_err_and}
 use Rattle.distinct_inputs.specs.Failures.{IsOfImages}
 use Rattle.sketch_base.specs.Seed.{seed_hash}
 use Rattle.core_compact.specs.CompactState.{Compact}
-use Rattle.line_sketches.specs.Shards.{AreRead}
-use Rattle.line_sketches.specs.Sources.{Continues}
+use Rattle.keys_sketches.specs.Shards.{AreRead}
+use Rattle.keys_sketches.specs.Sources.{Continues}
 use Rattle.distinct_inputs.specs.Images.{remaining_images}
 use Rattle.distinct_inputs.specs.Seeds.{AreSeeded}
 use Rattle.distinct_commands.proofs.NextImages.{reads_more, fails_before}

@@ -1,5 +1,5 @@
-use Rattle.line_sketches.specs.Shards.{AreRead}
-use Rattle.line_sketches.specs.Sources.{Continues}
+use Rattle.keys_sketches.specs.Shards.{AreRead}
+use Rattle.keys_sketches.specs.Sources.{Continues}
 use Rattle.distinct_inputs.specs.Images.{remaining_images}
 use Rattle.distinct_inputs.specs.Seeds.{AreSeeded}
 use Rattle.distinct_commands.proofs.combine.all_sketches.Given as goal

@@ -1,6 +1,6 @@
 use Rattle.std.proofs.Common.{true}
-use Rattle.line_sketches.specs.Meeting.{refusal_of_intersection}
-use Rattle.line_sketches.proofs.Refused.{only_memory}
+use Rattle.keys_sketches.specs.Meeting.{refusal_of_intersection}
+use Rattle.keys_sketches.proofs.Refused.{only_memory}
 use Rattle.distinct_commands.proofs.OnlyMemory.{intersection_accepted}
 use Rattle.distinct_commands.proofs.combine.meet_image.Goals as goal
 

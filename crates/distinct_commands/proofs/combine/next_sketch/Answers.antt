@@ -1,6 +1,6 @@
 use Rattle.std.proofs.Common.{false, subst}
 use Rattle.sketch_base.specs.Seed.{seed_hash}
-use Rattle.line_sketches.proofs.Refused.{read_seed}
+use Rattle.keys_sketches.proofs.Refused.{read_seed}
 use Rattle.distinct_inputs.specs.Images.{remaining_images, IsNoSketch}
 use Rattle.distinct_commands.proofs.NextImages.{first_is_none, refused_is_none}
 use Rattle.distinct_commands.proofs.combine.next_sketch.Goals as goal

@@ -2,7 +2,7 @@ use Rattle.std.proofs.Common.{Bool, sym, subst}
 use Rattle.std.specs.Prelude.{IfSome, IfOk}
 use Rattle.core_laws.specs.declared.TheConstants.{MAX_THETA}
 use Rattle.core_laws.specs.Settings.{settings_refusal}
-use Rattle.line_sums.specs.Unions.{IsUnitedSumsImage, UnitesSumsOfTexts}
+use Rattle.keys_sums.specs.Unions.{IsUnitedSumsImage, UnitesSumsOfTexts}
 use Rattle.distinct_commands.specs.Answers.{IsUnionOf}
 use Rattle.distinct_inputs.specs.Images.{remaining_images}
 use Rattle.distinct_commands.proofs.NextImages.{both_known}

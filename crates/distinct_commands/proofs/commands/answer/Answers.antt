@@ -1,5 +1,5 @@
 use Rattle.std.proofs.lemmas.Result.{err_from_is_err_and}
-use Rattle.line_sketches.proofs.Turns.{if_any}
+use Rattle.keys_sketches.proofs.Turns.{if_any}
 use Rattle.distinct_commands.proofs.commands.answer.Goals as goal
 
 pub returns-in_err-bytes-clause-answered : goal.returns-in_err-bytes-clause-answered

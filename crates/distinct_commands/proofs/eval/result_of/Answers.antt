@@ -1,9 +1,9 @@
 use Rattle.std.proofs.Common.{◌∙◌, ℕ, true, subst}
 use Rattle.std.proofs.lemmas.List.{length-map}
-use Rattle.set_expressions.specs.Values.{hash_rules}
-use Rattle.set_expressions.specs.Running.{evaluation_refusal}
+use Rattle.expression_evaluation.specs.Values.{hash_rules}
+use Rattle.expression_evaluation.specs.Running.{evaluation_refusal}
 use Rattle.expression_text.specs.Expressions.{HasIndicesBelow}
-use Rattle.line_sketches.proofs.Refused.{only_memory}
+use Rattle.keys_sketches.proofs.Refused.{only_memory}
 use Rattle.distinct_commands.proofs.OnlyMemory.{sized}
 use Rattle.distinct_commands.proofs.WholeStreams.{evaluation_accepted}
 use Rattle.distinct_commands.proofs.eval.result_of.Goals as goal

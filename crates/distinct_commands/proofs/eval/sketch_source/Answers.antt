@@ -1,9 +1,9 @@
 use Rattle.std.proofs.Common.{◌≡◌, subst}
 use Rattle.std.specs.Prelude.{IfSome, IfOk}
-use Rattle.lines.specs.Lines.{lines_of}
-use Rattle.lines.specs.declared.key.Key.{Key}
-use Rattle.lines.specs.declared.key.Hashing.{Hashing}
-use Rattle.line_sketches.specs.Keys.{value_of_lines, sketch_of_value}
+use Rattle.keys_lines.specs.Lines.{lines_of}
+use Rattle.keys_lines.specs.declared.key.Key.{Key}
+use Rattle.keys_lines.specs.declared.key.Hashing.{Hashing}
+use Rattle.keys_sketches.specs.Keys.{value_of_lines, sketch_of_value}
 use Rattle.distinct_commands.proofs.eval.sketch_source.Goals as goal
 
 pub returns-clause-sketch : goal.returns-clause-sketch

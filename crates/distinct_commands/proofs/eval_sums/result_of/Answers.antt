@@ -1,8 +1,8 @@
 use Rattle.std.proofs.Common.{◌∙◌, ℕ, List, [], Some, subst}
 use Rattle.expression_text.specs.declared.operator.Step.{Step}
 use Rattle.std.proofs.lemmas.List.{length-map}
-use Rattle.set_expressions.specs.Values.{sum_rules}
-use Rattle.set_expressions.specs.Running.{MayRefuse, sums_refusal, sums_values}
+use Rattle.expression_evaluation.specs.Values.{sum_rules}
+use Rattle.expression_evaluation.specs.Running.{MayRefuse, sums_refusal, sums_values}
 use Rattle.expression_text.specs.Expressions.{HasIndicesBelow}
 use Rattle.distinct_commands.proofs.OnlyMemory.{sized}
 use Rattle.distinct_commands.proofs.WholeStreams.{evaluation_accepted, merge_alone, merge_refused}

@@ -1,7 +1,7 @@
-use Rattle.line_sketches.proofs.Turns.{if_some}
-use Rattle.lines.specs.Lines.{lines_of_all}
-use Rattle.grouped_lines.specs.Groups.{HasGroups}
-use Rattle.grouped_lines.specs.Files.{AreFilesOf}
+use Rattle.keys_sketches.proofs.Turns.{if_some}
+use Rattle.keys_lines.specs.Lines.{lines_of_all}
+use Rattle.keys_groups.specs.Groups.{HasGroups}
+use Rattle.keys_groups.specs.Files.{AreFilesOf}
 use Rattle.distinct_arguments.specs.Faults.{options_of}
 use Rattle.distinct_commands.specs.Groups.{grouping_of}
 use Rattle.distinct_commands.proofs.groups.group_files.Goals as goal

@@ -1,6 +1,6 @@
 use Rattle.std.specs.Prelude.{map, length, string_bytes}
 use Rattle.distinct_arguments.specs.Faults.{options_of}
-use Rattle.line_sketches.specs.Sources.{Continues}
+use Rattle.keys_sketches.specs.Sources.{Continues}
 use Rattle.distinct_inputs.specs.Images.{remaining_images}
 use Rattle.distinct_commands.proofs.NextImages.{ShowsOn}
 use Rattle.distinct_commands.proofs.show.show_files.Given as goal

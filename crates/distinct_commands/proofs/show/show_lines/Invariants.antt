@@ -1,5 +1,5 @@
 use Rattle.distinct_arguments.specs.Faults.{options_of}
-use Rattle.line_sketches.specs.Sources.{Continues}
+use Rattle.keys_sketches.specs.Sources.{Continues}
 use Rattle.distinct_inputs.specs.Images.{remaining_images}
 use Rattle.distinct_commands.proofs.NextImages.{ShowMore}
 use Rattle.distinct_commands.proofs.show.show_lines.Given as goal

@@ -1,5 +1,5 @@
 use Rattle.std.proofs.Common.{ap, arith, length, ◌≡◌, suc}
-use Rattle.lines.specs.Lines.{lines_of}
+use Rattle.keys_lines.specs.Lines.{lines_of}
 use Rattle.plan_text.proofs.words.Separators.{length-lines_of-le}
 use Rattle.plan_text.proofs.text.line_count.Goals as goal
 

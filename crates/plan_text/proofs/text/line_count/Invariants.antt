@@ -1,5 +1,5 @@
 use Rattle.std.proofs.Common.{◌≡◌, ◌+◌, length}
-use Rattle.lines.specs.Lines.{lines_of}
+use Rattle.keys_lines.specs.Lines.{lines_of}
 use Rattle.plan_text.proofs.text.line_count.Given as goal
 
 abbrev pub invariant-loop-after : goal.invariant-loop-after

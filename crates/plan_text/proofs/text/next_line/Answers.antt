@@ -1,5 +1,5 @@
 use Rattle.std.proofs.Common.{ap, ◌∙◌}
-use Rattle.lines.specs.Lines.{lines_of}
+use Rattle.keys_lines.specs.Lines.{lines_of}
 use Rattle.plan_text.proofs.words.Separators.{lines_last, lines_some, not_empty}
 use Rattle.plan_text.proofs.text.next_line.Goals as goal
 

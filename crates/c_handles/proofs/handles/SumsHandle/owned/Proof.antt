@@ -1,6 +1,6 @@
 use Rattle.c_handles.proofs.Lending.{meets, refl}
 use Rattle.c_handles.proofs.Values.{Owned}
-use Rattle.sketch_objects.specs.contracts.sums.SeededSums.{the_row as object}
+use Rattle.c_objects.specs.contracts.sums.SeededSums.{the_row as object}
 use Rattle.c_handles.specs.contracts.handles.SumsHandle.{the_row as handle}
 use Rattle.c_handles.proofs.handles.SumsHandle.owned.Statement.{statement}
 use Rattle.c_handles.proofs.handles.SumsHandle.owned.Code.{unfolded}

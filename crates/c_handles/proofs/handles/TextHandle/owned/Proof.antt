@@ -1,6 +1,6 @@
 use Rattle.c_handles.proofs.Lending.{meets, refl}
 use Rattle.c_handles.proofs.Values.{Owned}
-use Rattle.line_sketches.specs.contracts.pieces.OpenText.{the_row as object}
+use Rattle.keys_sketches.specs.contracts.pieces.OpenText.{the_row as object}
 use Rattle.c_handles.specs.contracts.handles.TextHandle.{the_row as handle}
 use Rattle.c_handles.proofs.handles.TextHandle.owned.Statement.{statement}
 use Rattle.c_handles.proofs.handles.TextHandle.owned.Code.{unfolded}

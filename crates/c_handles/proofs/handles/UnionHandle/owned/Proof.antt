@@ -1,6 +1,6 @@
 use Rattle.c_handles.proofs.Lending.{meets, refl}
 use Rattle.c_handles.proofs.Values.{Owned}
-use Rattle.sketch_objects.specs.contracts.union.SeededUnion.{the_row as object}
+use Rattle.c_objects.specs.contracts.union.SeededUnion.{the_row as object}
 use Rattle.c_handles.specs.contracts.handles.UnionHandle.{the_row as handle}
 use Rattle.c_handles.proofs.handles.UnionHandle.owned.Statement.{statement}
 use Rattle.c_handles.proofs.handles.UnionHandle.owned.Code.{unfolded}

@@ -1,5 +1,5 @@
 use Rattle.std.proofs.Common.{◌++◌, sym, ap, subst, ◌∙◌}
-use Rattle.grouped_lines.specs.Groups.{group_sketch, IsNext}
+use Rattle.keys_groups.specs.Groups.{group_sketch, IsNext}
 use Rattle.distinct_arguments.specs.Faults.{options_of}
 use Rattle.distinct_commands.specs.Groups.{group_line, groups_text}
 use Rattle.distinct_commands.proofs.GroupLines.{line_added, all_lines}

@@ -1,6 +1,6 @@
 use Rattle.std.proofs.Common.{ℕ, ◌≡◌, List, ◌++◌}
-use Rattle.grouped_lines.specs.Groups.{AreLeft}
-use Rattle.grouped_lines.specs.declared.groups.Grouping.{Grouping}
+use Rattle.keys_groups.specs.Groups.{AreLeft}
+use Rattle.keys_groups.specs.declared.groups.Grouping.{Grouping}
 use Rattle.distinct_arguments.specs.Faults.{options_of}
 use Rattle.distinct_commands.specs.Groups.{groups_text}
 use Rattle.distinct_commands.proofs.groups.GroupPrinter.groups_text.Given as goal

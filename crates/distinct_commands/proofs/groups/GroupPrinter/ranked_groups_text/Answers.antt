@@ -1,6 +1,6 @@
 use Rattle.std.proofs.Common.{ℕ, ◌≡◌, List, [], ◌∷◌, ◌++◌, refl, sym, ap, subst, ◌∙◌, append_assoc, append-nil}
-use Rattle.grouped_lines.specs.Groups.{group_sketch, IsNext}
-use Rattle.grouped_lines.specs.Ranked.{HasTexts}
+use Rattle.keys_groups.specs.Groups.{group_sketch, IsNext}
+use Rattle.keys_groups.specs.Ranked.{HasTexts}
 use Rattle.distinct_arguments.specs.Faults.{options_of}
 use Rattle.distinct_commands.specs.Groups.{group_estimate, group_line}
 use Rattle.distinct_commands.specs.Texts.{report_by}

@@ -1,7 +1,7 @@
 use Rattle.std.proofs.Common.{ℕ, ◌≡◌, List, ◌++◌}
-use Rattle.grouped_lines.specs.Groups.{AreLeft, group_sketch}
-use Rattle.grouped_lines.specs.Ranked.{HasTexts}
-use Rattle.grouped_lines.specs.declared.groups.Grouping.{Grouping}
+use Rattle.keys_groups.specs.Groups.{AreLeft, group_sketch}
+use Rattle.keys_groups.specs.Ranked.{HasTexts}
+use Rattle.keys_groups.specs.declared.groups.Grouping.{Grouping}
 use Rattle.distinct_arguments.specs.Faults.{options_of}
 use Rattle.distinct_commands.specs.Groups.{group_estimate, group_line}
 use Rattle.distinct_commands.proofs.groups.GroupPrinter.ranked_groups_text.Given as goal

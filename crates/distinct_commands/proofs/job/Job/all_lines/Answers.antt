@@ -2,7 +2,7 @@ use Rattle.std.proofs.Common.{◌≡◌, ℕ, List, Option, sym, subst}
 use Rattle.std.specs.Prelude.{IfSome}
 use Rattle.sketch_base.specs.Seed.{seed_hash}
 use Rattle.core_compact.specs.CompactState.{Compact}
-use Rattle.line_sketches.specs.Sources.{Continues}
+use Rattle.keys_sketches.specs.Sources.{Continues}
 use Rattle.distinct_arguments.specs.Faults.{options_of}
 use Rattle.distinct_commands.specs.Eval.{AreSketchesOfTexts}
 use Rattle.distinct_inputs.specs.Seeds.{AreSeeded}

@@ -1,4 +1,4 @@
-use Rattle.line_sketches.specs.Sources.{Continues}
+use Rattle.keys_sketches.specs.Sources.{Continues}
 use Rattle.distinct_arguments.specs.Faults.{options_of}
 use Rattle.distinct_commands.specs.Eval.{AreSketchesOfTexts}
 use Rattle.distinct_inputs.specs.Seeds.{AreSeeded}

@@ -1,8 +1,8 @@
 use Rattle.std.proofs.Common.{ℕ, List, ap, ◌∙◌, arith}
 use Rattle.sketch_base.specs.Seed.{seed_hash}
 use Rattle.core_compact.specs.CompactState.{Compact, ordered_sketch}
-use Rattle.set_expressions.specs.Values.{hashes_value}
-use Rattle.set_expressions.specs.Running.{values_of}
+use Rattle.expression_evaluation.specs.Values.{hashes_value}
+use Rattle.expression_evaluation.specs.Running.{values_of}
 use Rattle.distinct_arguments.specs.Faults.{options_of}
 use Rattle.distinct_commands.proofs.Evaluated.{evaluated}
 use Rattle.distinct_commands.proofs.job.Job.evaluated.Goals as goal

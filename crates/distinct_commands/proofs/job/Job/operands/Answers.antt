@@ -1,7 +1,7 @@
 use Rattle.std.proofs.Common.{ℕ, Bool, false, List, sym, subst}
 use Rattle.std.specs.Prelude.{IfSome, IfOk, IfErr}
 use Rattle.std.specs.Option.{option_map}
-use Rattle.line_sketches.specs.Shards.{AreRead}
+use Rattle.keys_sketches.specs.Shards.{AreRead}
 use Rattle.distinct_arguments.specs.Faults.{options_of}
 use Rattle.distinct_commands.specs.Eval.{AreOperands}
 use Rattle.distinct_inputs.specs.Failures.{IsOfImages}

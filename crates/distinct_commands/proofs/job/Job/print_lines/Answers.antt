@@ -1,8 +1,8 @@
 use Rattle.std.proofs.Common.{sym, ◌∙◌}
 use Rattle.std.specs.Prelude.{IfOk}
-use Rattle.lines.specs.Lines.{lines_of_all}
-use Rattle.line_sketches.proofs.Turns.{if_some}
-use Rattle.grouped_lines.specs.Groups.{HasGroups}
+use Rattle.keys_lines.specs.Lines.{lines_of_all}
+use Rattle.keys_sketches.proofs.Turns.{if_some}
+use Rattle.keys_groups.specs.Groups.{HasGroups}
 use Rattle.distinct_arguments.specs.Faults.{options_of}
 use Rattle.distinct_arguments.specs.Settings.{chosen_group}
 use Rattle.distinct_commands.specs.Answers.{IsLinesText}

@@ -2,8 +2,8 @@ use Rattle.std.proofs.Common.{ℕ, List, ap, ◌∙◌, arith}
 use Rattle.sketch_base.specs.Seed.{seed_hash}
 use Rattle.core_compact.specs.CompactState.{Compact, ordered_sketch}
 use Rattle.core_slots.specs.declared.entry.TupleEntry.{TupleEntry}
-use Rattle.set_expressions.specs.Values.{sums_value}
-use Rattle.set_expressions.specs.Running.{sums_values}
+use Rattle.expression_evaluation.specs.Values.{sums_value}
+use Rattle.expression_evaluation.specs.Running.{sums_values}
 use Rattle.distinct_arguments.specs.Faults.{options_of}
 use Rattle.distinct_commands.proofs.Evaluated.{sums_evaluated}
 use Rattle.distinct_commands.proofs.job.Job.sums_evaluated.Goals as goal

@@ -1,14 +1,14 @@
 use Rattle.std.proofs.Common.{◌≡◌, ap, subst, ◌∙◌}
 use Rattle.std.specs.Prelude.{IfSome}
-use Rattle.lines.specs.Lines.{lines_of_all}
-use Rattle.lines.specs.declared.key.Key.{Key}
-use Rattle.line_sketches.proofs.Turns.{if_some}
-use Rattle.line_sums.specs.Amounts.{added_by}
+use Rattle.keys_lines.specs.Lines.{lines_of_all}
+use Rattle.keys_lines.specs.declared.key.Key.{Key}
+use Rattle.keys_sketches.proofs.Turns.{if_some}
+use Rattle.keys_sums.specs.Amounts.{added_by}
 use Rattle.core_laws.specs.Settings.{settings_refusal}
 use Rattle.core_laws.specs.declared.TheConstants.{MAX_THETA}
-use Rattle.line_sums.specs.Refusals.{IsUnsummed, LacksNumberOf, IsPast, IsPastIn}
-use Rattle.line_sums.specs.Sums.{sketch_of_sums}
-use Rattle.line_sums.specs.declared.summing.Unsummed.{Unsummed}
+use Rattle.keys_sums.specs.Refusals.{IsUnsummed, LacksNumberOf, IsPast, IsPastIn}
+use Rattle.keys_sums.specs.Sums.{sketch_of_sums}
+use Rattle.keys_sums.specs.declared.summing.Unsummed.{Unsummed}
 use Rattle.distinct_arguments.specs.Faults.{options_of}
 use Rattle.distinct_commands.specs.Sums.{sums_of}
 use Rattle.distinct_commands.proofs.job.Job.sums_of.Goals as goal

@@ -1,7 +1,7 @@
 use Rattle.std.proofs.Common.{ℕ, true, List, sym, subst, ◌∙◌}
 use Rattle.std.specs.Prelude.{IfSome}
 use Rattle.std.specs.Option.{option_map}
-use Rattle.line_sums.specs.Images.{AreReadSums}
+use Rattle.keys_sums.specs.Images.{AreReadSums}
 use Rattle.distinct_inputs.specs.Failures.{IsOfImages}
 use Rattle.distinct_inputs.specs.Images.{images_of, remaining_images}
 use Rattle.distinct_commands.proofs.NextImages.{all_hold, all_images}

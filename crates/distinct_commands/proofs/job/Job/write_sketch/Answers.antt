@@ -1,6 +1,6 @@
 use Rattle.std.proofs.Common.{Option, sym, subst, ◌∙◌}
 use Rattle.std.specs.Prelude.{IfErr, IfOk, IfSome}
-use Rattle.line_sums.specs.declared.addends.Amount.{Amount}
+use Rattle.keys_sums.specs.declared.addends.Amount.{Amount}
 use Rattle.distinct_arguments.specs.Faults.{options_of}
 use Rattle.distinct_arguments.specs.Settings.{chosen_group}
 use Rattle.distinct_commands.specs.Answers.{IsSketchText}

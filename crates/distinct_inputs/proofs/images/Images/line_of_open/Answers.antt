@@ -1,6 +1,6 @@
 use Rattle.std.proofs.Common.{ℕ, List, Option, Some, Vec, Global, sym, subst, arith, ne_eqb}
 use Rattle.std.specs.Io.Buffered.{reader_remaining}
-use Rattle.line_sketches.specs.Sources.{GivesNext}
+use Rattle.keys_sketches.specs.Sources.{GivesNext}
 use Rattle.distinct_inputs.specs.Images.{remaining_parts}
 use Rattle.distinct_inputs.proofs.ImageLines.{next_line}
 use Rattle.distinct_inputs.proofs.images.Images.line_of_open.Goals as goal

@@ -1,7 +1,7 @@
 use Rattle.std.proofs.Common.{ℕ, ◌≤◌, Bool, List, Option, map, Some, Vec, Global, sym, ap, subst, ◌∙◌}
 use Rattle.std.specs.Prelude.{IfSome}
 use Rattle.std.specs.Option.{option_map}
-use Rattle.line_sketches.specs.Sources.{GivesNext}
+use Rattle.keys_sketches.specs.Sources.{GivesNext}
 use Rattle.distinct_inputs.specs.Images.{alone, count_of, remaining_parts}
 use Rattle.distinct_inputs.proofs.ImageLines.{next_mapped, count_of_alone}
 use Rattle.distinct_inputs.proofs.images.Images.next_image.Goals as goal

@@ -1,6 +1,6 @@
 use Rattle.std.proofs.Common.{ℕ, ◌≤◌, Bool, Option, Vec, Global, refl, subst, ◌∙◌}
 use Rattle.std.specs.Prelude.{IfSome}
-use Rattle.line_sketches.specs.Sources.{GivesNext}
+use Rattle.keys_sketches.specs.Sources.{GivesNext}
 use Rattle.distinct_inputs.specs.Images.{remaining_parts, count_of, GivesOrCloses}
 use Rattle.distinct_inputs.proofs.ImageLines.{known_same, none_of, gives_first, opened, at_last}
 use Rattle.distinct_inputs.proofs.images.Images.next_line.Goals as goal

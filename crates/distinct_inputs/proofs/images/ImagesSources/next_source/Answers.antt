@@ -1,5 +1,5 @@
 use Rattle.std.proofs.Common.{ℕ, Option, Some, Vec, Global, refl, subst}
-use Rattle.line_sketches.specs.Sources.{GivesNext}
+use Rattle.keys_sketches.specs.Sources.{GivesNext}
 use Rattle.distinct_inputs.specs.Images.{remaining_images}
 use Rattle.distinct_inputs.proofs.ImageLines.{same_first}
 use Rattle.distinct_inputs.proofs.images.ImagesSources.next_source.Goals as goal

@@ -1,0 +1,71 @@
+//! Compact theta sketches, which are immutable.
+ghost use Rattle.std.specs.Prelude.{◌≡◌, true, None, option_map};
+ghost use Rattle.c_objects.specs.Bounds.{is_state};
+ghost use Rattle.c_objects.specs.Buffer.{WritesOf};
+ghost use Rattle.c_handles.specs.Calls.{Fills, FillsFrom, WritesValue};
+ghost use Rattle.c_objects.specs.Status.{IsMemoryRefusal};
+ghost use Rattle.c_objects.specs.Thetas.{compact_state, IsCompactImage, IsCopy, IsReadFrom, IsReadRefusal};
+
+use c_handles::handles::CompactHandle;
+use c_objects::state::State;
+use std::alloc::Global;
+
+/// Reads the sketch that the bytes begin with, under this seed; bytes after it are ignored. Serial versions 1, 2 and 3
+/// are read.
+///
+/// Refused with `INVALID_DATA` if the bytes begin with no sketch of this seed, and with `OUT_OF_MEMORY`.
+#[unsafe(no_mangle)]
+pub extern "C" fn kcp_compact_read(
+    alloc: Global,
+    sketch: &mut CompactHandle,
+    image: &[u8],
+    seed: u64,
+) -> u32
+    ensures { Fills (IsReadFrom image.now seed) (IsReadRefusal image.now seed) sketch.old.value result sketch.new.value }
+{
+    sketch.owned().read(alloc, image, seed)
+}
+
+/// Frees the sketch of a handle, if it has one.
+#[unsafe(no_mangle)]
+pub extern "C" fn kcp_compact_free(alloc: Global, sketch: &mut CompactHandle)
+    ensures { sketch.new.value ≡ None }
+{
+    sketch.owned().free(alloc);
+}
+
+/// Copies a sketch into another handle. Refused with `OUT_OF_MEMORY`.
+#[unsafe(no_mangle)]
+pub extern "C" fn kcp_compact_clone(
+    alloc: Global,
+    sketch: &mut CompactHandle,
+    out: &mut CompactHandle,
+) -> u32
+    ensures copied { FillsFrom IsCopy (λ _. IsMemoryRefusal) sketch.old.value out.old.value result out.new.value }
+    ensures unchanged { sketch.new.value ≡ sketch.old.value }
+{
+    sketch.owned().copy(alloc, out.owned())
+}
+
+/// Writes the sketch's state, as `kcp_theta_state` does.
+#[unsafe(no_mangle)]
+pub extern "C" fn kcp_compact_state(sketch: &mut CompactHandle, out: &mut State) -> u32
+    ensures state { WritesValue (option_map compact_state sketch.old.value) out.old result out.new }
+    ensures usable { result ≡ 0 → is_state out.new.retained out.new.theta ≡ true }
+    ensures unchanged { sketch.new.value ≡ sketch.old.value }
+{
+    sketch.owned().state(out)
+}
+
+/// Writes the sketch's image, in the DataSketches format. Refused with `OUT_OF_MEMORY`.
+#[unsafe(no_mangle)]
+pub extern "C" fn kcp_compact_image(
+    sketch: &mut CompactHandle,
+    out: &mut [u8],
+    length: &mut u64,
+) -> u32
+    ensures image { WritesOf IsCompactImage (λ _. IsMemoryRefusal) sketch.old.value out.old length.old result out.new length.new }
+    ensures unchanged { sketch.new.value ≡ sketch.old.value }
+{
+    sketch.owned().image(out, length)
+}

@@ -1,0 +1,87 @@
+//! Compact tuple sketches whose summaries are sums of 64 bits.
+ghost use Rattle.std.specs.Prelude.{◌≡◌, true, None, option_map, length};
+ghost use Rattle.c_objects.specs.Bounds.{is_state, wide};
+ghost use Rattle.c_objects.specs.Buffer.{WritesOf};
+ghost use Rattle.c_handles.specs.Calls.{Fills, WritesValue};
+ghost use Rattle.c_objects.specs.CompactSums.{IsSumsReadFrom, IsSumsReadRefusal, compact_sums_state, IsCompactSumsImage, compact_total, CopiesEntries};
+ghost use Rattle.c_objects.specs.Status.{IsMemoryRefusal};
+
+use c_handles::handles::CompactSumsHandle;
+use c_objects::bounds::Wide;
+use c_objects::compact_sums::put_entries;
+use c_objects::state::State;
+use c_objects::status::INVALID_ARGUMENT;
+use std::alloc::Global;
+
+/// Reads the sketch that the bytes begin with, under this seed, as `kcp_compact_read` does.
+#[unsafe(no_mangle)]
+pub extern "C" fn kcp_compact_sums_read(
+    alloc: Global,
+    sums: &mut CompactSumsHandle,
+    image: &[u8],
+    seed: u64,
+) -> u32
+    ensures { Fills (IsSumsReadFrom image.now seed) (IsSumsReadRefusal image.now seed) sums.old.value result sums.new.value }
+{
+    sums.owned().read(alloc, image, seed)
+}
+
+/// Frees the sketch of a handle, if it has one.
+#[unsafe(no_mangle)]
+pub extern "C" fn kcp_compact_sums_free(alloc: Global, sums: &mut CompactSumsHandle)
+    ensures { sums.new.value ≡ None }
+{
+    sums.owned().free(alloc);
+}
+
+/// Writes the sketch's state, as `kcp_theta_state` does.
+#[unsafe(no_mangle)]
+pub extern "C" fn kcp_compact_sums_state(sums: &mut CompactSumsHandle, out: &mut State) -> u32
+    ensures state { WritesValue (option_map compact_sums_state sums.old.value) out.old result out.new }
+    ensures usable { result ≡ 0 → is_state out.new.retained out.new.theta ≡ true }
+    ensures unchanged { sums.new.value ≡ sums.old.value }
+{
+    sums.owned().state(out)
+}
+
+/// Writes the sketch's image, as `kcp_sums_image` does.
+#[unsafe(no_mangle)]
+pub extern "C" fn kcp_compact_sums_image(
+    sums: &mut CompactSumsHandle,
+    out: &mut [u8],
+    length: &mut u64,
+) -> u32
+    ensures image { WritesOf IsCompactSumsImage (λ _. IsMemoryRefusal) sums.old.value out.old length.old result out.new length.new }
+    ensures unchanged { sums.new.value ≡ sums.old.value }
+{
+    sums.owned().image(out, length)
+}
+
+/// Writes the hashes of the sketch and their sums, in the order of the image, to two arrays of `room` numbers each, and
+/// their number to `*count`.
+///
+/// If room is less, the status is `TOO_SMALL`, the arrays are as before, and `*count` is the room that is needed.
+#[unsafe(no_mangle)]
+pub extern "C" fn kcp_compact_sums_entries(
+    sums: &mut CompactSumsHandle,
+    hashes: &mut [u64],
+    values: &mut [u64],
+    count: &mut u64,
+) -> u32
+    ensures entries { CopiesEntries sums.old.value hashes.old values.old count.old result hashes.new values.new count.new }
+    ensures unchanged { sums.new.value ≡ sums.old.value }
+{
+    match sums.owned().get() {
+        Some(object) => put_entries(object, hashes, values, count),
+        None => INVALID_ARGUMENT,
+    }
+}
+
+/// Writes the total of a sketch, as `kcp_sums_total` does.
+#[unsafe(no_mangle)]
+pub extern "C" fn kcp_compact_sums_total(sums: &mut CompactSumsHandle, out: &mut Wide) -> u32
+    ensures total { WritesValue (option_map (λ s. wide (compact_total s)) sums.old.value) out.old result out.new }
+    ensures unchanged { sums.new.value ≡ sums.old.value }
+{
+    sums.owned().total(out)
+}

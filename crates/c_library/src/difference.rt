@@ -1,0 +1,31 @@
+//! Differences of theta sketches.
+ghost use Rattle.std.specs.Prelude.{◌≡◌};
+ghost use Rattle.c_handles.specs.Calls.{FillsFromTwo};
+ghost use Rattle.c_objects.specs.Intersection.{AreOfSeed, IsDifferenceOf, IsDifferenceRefusal};
+
+use c_handles::handles::CompactHandle;
+use std::alloc::Global;
+
+/// Makes the difference of two sketches, as an ordered compact sketch: the hashes of the first that the second lacks,
+/// below the lesser theta. Pass three different handles.
+///
+/// Refused with `INVALID_ARGUMENT` if the hash of the seed is 0, and, unless the first sketch is empty, if one that
+/// isn't empty is of another seed; and with `OUT_OF_MEMORY`. With an empty first sketch the difference is empty, and
+/// the second sketch may be of any seed.
+#[unsafe(no_mangle)]
+pub extern "C" fn kcp_difference(
+    alloc: Global,
+    first: &mut CompactHandle,
+    second: &mut CompactHandle,
+    seed: u64,
+    out: &mut CompactHandle,
+) -> u32
+    ensures made { FillsFromTwo (AreOfSeed seed) IsDifferenceOf (IsDifferenceRefusal seed)
+        first.old.value second.old.value out.old.value result out.new.value }
+    ensures same_first { first.new.value ≡ first.old.value }
+    ensures same_second { second.new.value ≡ second.old.value }
+{
+    first
+        .owned()
+        .difference(alloc, second.owned(), seed, out.owned())
+}

@@ -1,0 +1,88 @@
+//! Intersections of theta sketches.
+ghost use Rattle.std.specs.Prelude.{◌≡◌, None};
+ghost use Rattle.c_handles.specs.Calls.{OnObject, OnObjectWith, Fills, FillsFrom};
+ghost use Rattle.c_objects.specs.Intersection.{IsNewIntersection, MeetsShown, IsSeedRefusal, IsIntersectionResult, IsNoResult};
+ghost use Rattle.c_objects.specs.Thetas.{OfSketch, OfCompact, OfImage};
+
+use c_handles::handles::{CompactHandle, IntersectionHandle, ThetaHandle};
+use c_objects::intersection::built;
+use std::alloc::Global;
+
+/// Makes an intersection, which has no value before its first sketch. Refused with `INVALID_ARGUMENT` if the hash of
+/// the seed is 0, and with `OUT_OF_MEMORY`.
+#[unsafe(no_mangle)]
+pub extern "C" fn kcp_intersection_new(
+    alloc: Global,
+    intersection: &mut IntersectionHandle,
+    seed: u64,
+) -> u32
+    ensures { Fills (IsNewIntersection seed) (IsSeedRefusal seed) intersection.old.value result intersection.new.value }
+{
+    intersection.owned().put(alloc, built(alloc, seed))
+}
+
+/// Frees the intersection of a handle, if it has one.
+#[unsafe(no_mangle)]
+pub extern "C" fn kcp_intersection_free(alloc: Global, intersection: &mut IntersectionHandle)
+    ensures { intersection.new.value ≡ None }
+{
+    intersection.owned().free(alloc);
+}
+
+/// Intersects with a sketch that takes updates: the value keeps the hashes that all sketches share below their least
+/// theta. It is empty for good once a sketch is, or once sketches that have hashes share none while theta is
+/// `MAX_THETA`; it then accepts every sketch.
+///
+/// Refused with `INVALID_ARGUMENT` for a sketch of another seed, and with `OUT_OF_MEMORY`; nothing has changed then.
+#[unsafe(no_mangle)]
+pub extern "C" fn kcp_intersection_add(
+    intersection: &mut IntersectionHandle,
+    sketch: &mut ThetaHandle,
+) -> u32
+    ensures met { OnObjectWith (OfSketch MeetsShown) sketch.old.value intersection.old.value result intersection.new.value }
+    ensures unchanged { sketch.new.value ≡ sketch.old.value }
+{
+    intersection.owned().add(sketch.owned())
+}
+
+/// Intersects with a compact sketch, as `kcp_intersection_add` does.
+#[unsafe(no_mangle)]
+pub extern "C" fn kcp_intersection_add_compact(
+    intersection: &mut IntersectionHandle,
+    sketch: &mut CompactHandle,
+) -> u32
+    ensures met { OnObjectWith (OfCompact MeetsShown) sketch.old.value intersection.old.value result intersection.new.value }
+    ensures unchanged { sketch.new.value ≡ sketch.old.value }
+{
+    intersection.owned().add(sketch.owned())
+}
+
+/// Intersects with the sketch that the bytes begin with, read under the intersection's seed, as `kcp_intersection_add`
+/// does.
+///
+/// Refused with `INVALID_DATA` if the bytes begin with no sketch of this seed, and otherwise as `kcp_intersection_add`
+/// is; nothing has changed then.
+#[unsafe(no_mangle)]
+pub extern "C" fn kcp_intersection_add_image(
+    alloc: Global,
+    intersection: &mut IntersectionHandle,
+    image: &[u8],
+) -> u32
+    ensures { OnObject (OfImage MeetsShown (λ i. i.seed) image.now) intersection.old.value result intersection.new.value }
+{
+    intersection.owned().add_image(alloc, image)
+}
+
+/// Makes the intersection's value as an ordered compact sketch. Refused with `INVALID_ARGUMENT` before the first
+/// sketch, and with `OUT_OF_MEMORY`.
+#[unsafe(no_mangle)]
+pub extern "C" fn kcp_intersection_result(
+    alloc: Global,
+    intersection: &mut IntersectionHandle,
+    out: &mut CompactHandle,
+) -> u32
+    ensures made { FillsFrom IsIntersectionResult IsNoResult intersection.old.value out.old.value result out.new.value }
+    ensures unchanged { intersection.new.value ≡ intersection.old.value }
+{
+    intersection.owned().compact(alloc, out.owned())
+}

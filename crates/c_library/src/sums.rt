@@ -1,0 +1,158 @@
+//! Tuple sketches whose summaries are sums of 64 bits.
+ghost use Rattle.std.specs.Prelude.{◌≡◌, true, None, option_map};
+ghost use Rattle.core_laws.specs.declared.TheConstants.{MAX_THETA};
+ghost use Rattle.c_objects.specs.Bounds.{is_state, wide};
+ghost use Rattle.c_objects.specs.Buffer.{WritesOf};
+ghost use Rattle.c_handles.specs.Calls.{OnObject, Fills, FillsFrom, WritesValue};
+ghost use Rattle.c_objects.specs.Settings.{IsSettingsRefusal, IsNewRefusal};
+ghost use Rattle.c_objects.specs.Status.{IsMemoryRefusal};
+ghost use Rattle.c_objects.specs.Sums.{IsNewSums, IsSameSums, AddsValue, AddsAtBytes, AddsAtNumber, TrimsSums, ResetsSums, sums_state, sums_total, IsImageOfSums, IsCompactFormOfSums};
+
+use c_handles::handles::{CompactSumsHandle, SumsHandle};
+use c_objects::bounds::Wide;
+use c_objects::settings::factor_of;
+use c_objects::state::State;
+use c_objects::status::INVALID_ARGUMENT;
+use c_objects::sums::{add_at_bytes, add_at_hash, add_at_number, built};
+use std::alloc::Global;
+use tuple_sketches::{MAX_THETA, ResizeFactor};
+
+/// Makes an empty sketch, as `kcp_theta_new` does.
+#[unsafe(no_mangle)]
+pub extern "C" fn kcp_sums_new(alloc: Global, sums: &mut SumsHandle, lg_k: u8, seed: u64) -> u32
+    ensures { Fills (IsNewSums lg_k MAX_THETA seed) (IsSettingsRefusal lg_k seed) sums.old.value result sums.new.value }
+{
+    sums.owned().put(alloc, built(alloc, lg_k, ResizeFactor::X8, MAX_THETA, seed))
+}
+
+/// Makes a sketch with a resize factor and a starting theta, as `kcp_theta_new_with` does.
+#[unsafe(no_mangle)]
+pub extern "C" fn kcp_sums_new_with(
+    alloc: Global,
+    sums: &mut SumsHandle,
+    lg_k: u8,
+    seed: u64,
+    resize_factor: u32,
+    starting_theta: u64,
+) -> u32
+    ensures { Fills (IsNewSums lg_k starting_theta seed) (IsNewRefusal lg_k resize_factor starting_theta seed) sums.old.value result sums.new.value }
+{
+    match factor_of(resize_factor) {
+        Some(factor) => sums
+            .owned()
+            .put(alloc, built(alloc, lg_k, factor, starting_theta, seed)),
+        None => INVALID_ARGUMENT,
+    }
+}
+
+/// Copies a sketch, with its sums, its theta and settings, into another handle. Refused with `OUT_OF_MEMORY`.
+#[unsafe(no_mangle)]
+pub extern "C" fn kcp_sums_clone(alloc: Global, sums: &mut SumsHandle, out: &mut SumsHandle) -> u32
+    ensures copied { FillsFrom IsSameSums (λ _. IsMemoryRefusal) sums.old.value out.old.value result out.new.value }
+    ensures unchanged { sums.new.value ≡ sums.old.value }
+{
+    sums.owned().copy(alloc, out.owned())
+}
+
+/// Frees the sketch of a handle, if it has one.
+#[unsafe(no_mangle)]
+pub extern "C" fn kcp_sums_free(alloc: Global, sums: &mut SumsHandle)
+    ensures { sums.new.value ≡ None }
+{
+    sums.owned().free(alloc);
+}
+
+/// Adds a value to the sum of a hash, which is 0 at first. A hash that is 0 or at least theta is not retained, but the
+/// sketch is nonempty afterwards.
+///
+/// Refused with `POLICY` if the sum would be 2^64 or more, and with `OUT_OF_MEMORY`, only for a new hash below theta.
+#[unsafe(no_mangle)]
+pub extern "C" fn kcp_sums_add_hash(sums: &mut SumsHandle, hash: u64, value: u64) -> u32
+    ensures { OnObject (AddsValue hash value) sums.old.value result sums.new.value }
+{
+    match sums.owned().get() {
+        Some(object) => add_at_hash(object, hash, value),
+        None => INVALID_ARGUMENT,
+    }
+}
+
+/// Adds a value to the sum of a number, by its hash as in `kcp_theta_update_u64`. Refused as `kcp_sums_add_hash` is.
+#[unsafe(no_mangle)]
+pub extern "C" fn kcp_sums_add_u64(sums: &mut SumsHandle, number: u64, value: u64) -> u32
+    ensures { OnObject (AddsAtNumber number value) sums.old.value result sums.new.value }
+{
+    match sums.owned().get() {
+        Some(object) => add_at_number(object, number, value),
+        None => INVALID_ARGUMENT,
+    }
+}
+
+/// Adds a value to the sum of bytes, by their hash as in `kcp_theta_update_bytes`. Refused as `kcp_sums_add_hash` is.
+#[unsafe(no_mangle)]
+pub extern "C" fn kcp_sums_add_bytes(sums: &mut SumsHandle, bytes: &[u8], value: u64) -> u32
+    ensures { OnObject (AddsAtBytes bytes.now value) sums.old.value result sums.new.value }
+{
+    match sums.owned().get() {
+        Some(object) => add_at_bytes(object, bytes, value),
+        None => INVALID_ARGUMENT,
+    }
+}
+
+/// Cuts a sketch to its nominal entries, as `kcp_theta_trim` does.
+#[unsafe(no_mangle)]
+pub extern "C" fn kcp_sums_trim(sums: &mut SumsHandle) -> u32
+    ensures { OnObject TrimsSums sums.old.value result sums.new.value }
+{
+    sums.owned().trim()
+}
+
+/// Makes a sketch empty again, as when it was new.
+#[unsafe(no_mangle)]
+pub extern "C" fn kcp_sums_reset(sums: &mut SumsHandle) -> u32
+    ensures { OnObject ResetsSums sums.old.value result sums.new.value }
+{
+    sums.owned().reset()
+}
+
+/// Writes the sketch's state, as `kcp_theta_state` does.
+#[unsafe(no_mangle)]
+pub extern "C" fn kcp_sums_state(sums: &mut SumsHandle, out: &mut State) -> u32
+    ensures state { WritesValue (option_map sums_state sums.old.value) out.old result out.new }
+    ensures usable { result ≡ 0 → is_state out.new.retained out.new.theta ≡ true }
+    ensures unchanged { sums.new.value ≡ sums.old.value }
+{
+    sums.owned().state(out)
+}
+
+/// Writes the image of the sketch's ordered compact form: after each hash the eight bytes of its sum, the lowest first.
+/// Refused with `OUT_OF_MEMORY`.
+#[unsafe(no_mangle)]
+pub extern "C" fn kcp_sums_image(sums: &mut SumsHandle, out: &mut [u8], length: &mut u64) -> u32
+    ensures image { WritesOf IsImageOfSums (λ _. IsMemoryRefusal) sums.old.value out.old length.old result out.new length.new }
+    ensures unchanged { sums.new.value ≡ sums.old.value }
+{
+    sums.owned().image(out, length)
+}
+
+/// Makes the sketch's ordered compact form, of the same value, untrimmed. Refused with `OUT_OF_MEMORY`.
+#[unsafe(no_mangle)]
+pub extern "C" fn kcp_sums_compact(
+    alloc: Global,
+    sums: &mut SumsHandle,
+    out: &mut CompactSumsHandle,
+) -> u32
+    ensures made { FillsFrom IsCompactFormOfSums (λ _. IsMemoryRefusal) sums.old.value out.old.value result out.new.value }
+    ensures unchanged { sums.new.value ≡ sums.old.value }
+{
+    sums.owned().compact(alloc, out.owned())
+}
+
+/// Writes the total of a sketch, the sum of its sums, below 2^96. The estimate of the total of all values that were
+/// added is this total * `MAX_THETA` / theta (`kc_total`, `kcp_total_decimal`, `kcp_total_rounded`, `kcp_total_text`).
+#[unsafe(no_mangle)]
+pub extern "C" fn kcp_sums_total(sums: &mut SumsHandle, out: &mut Wide) -> u32
+    ensures total { WritesValue (option_map (λ t. wide (sums_total t)) sums.old.value) out.old result out.new }
+    ensures unchanged { sums.new.value ≡ sums.old.value }
+{
+    sums.owned().total(out)
+}

@@ -1,0 +1,88 @@
+//! Intersections of tuple sketches of sums.
+ghost use Rattle.std.specs.Prelude.{◌≡◌, None};
+ghost use Rattle.c_handles.specs.Calls.{OnObject, OnObjectWith, Fills, FillsFrom};
+ghost use Rattle.c_objects.specs.CompactSums.{OfSums, OfCompactSums, OfSumsImage};
+ghost use Rattle.c_objects.specs.Intersection.{IsSeedRefusal};
+ghost use Rattle.c_objects.specs.SumsIntersection.{IsNewSumsIntersection, MeetsShownSums, IsSumsIntersectionResult, IsNoSumsResult};
+
+use c_handles::handles::{CompactSumsHandle, SumsHandle, SumsIntersectionHandle};
+use c_objects::sums_intersection::built;
+use std::alloc::Global;
+
+/// Makes an intersection, refused as `kcp_intersection_new` is. Its value is that of an intersection of theta sketches,
+/// and beside each hash the sum of the sums of all sketches.
+#[unsafe(no_mangle)]
+pub extern "C" fn kcp_sums_intersection_new(
+    alloc: Global,
+    intersection: &mut SumsIntersectionHandle,
+    seed: u64,
+) -> u32
+    ensures { Fills (IsNewSumsIntersection seed) (IsSeedRefusal seed) intersection.old.value result intersection.new.value }
+{
+    intersection.owned().put(alloc, built(alloc, seed))
+}
+
+/// Frees the intersection of a handle, if it has one.
+#[unsafe(no_mangle)]
+pub extern "C" fn kcp_sums_intersection_free(
+    alloc: Global,
+    intersection: &mut SumsIntersectionHandle,
+)
+    ensures { intersection.new.value ≡ None }
+{
+    intersection.owned().free(alloc);
+}
+
+/// Intersects with a sketch that takes updates, as `kcp_intersection_add` does.
+///
+/// Refused as that call is, and with `POLICY` if the sums of one hash are 2^64 or more together; nothing has changed
+/// then.
+#[unsafe(no_mangle)]
+pub extern "C" fn kcp_sums_intersection_add(
+    intersection: &mut SumsIntersectionHandle,
+    sketch: &mut SumsHandle,
+) -> u32
+    ensures met { OnObjectWith (OfSums MeetsShownSums) sketch.old.value intersection.old.value result intersection.new.value }
+    ensures unchanged { sketch.new.value ≡ sketch.old.value }
+{
+    intersection.owned().add(sketch.owned())
+}
+
+/// Intersects with a compact sketch, as `kcp_sums_intersection_add` does.
+#[unsafe(no_mangle)]
+pub extern "C" fn kcp_sums_intersection_add_compact(
+    intersection: &mut SumsIntersectionHandle,
+    sketch: &mut CompactSumsHandle,
+) -> u32
+    ensures met { OnObjectWith (OfCompactSums MeetsShownSums) sketch.old.value intersection.old.value result intersection.new.value }
+    ensures unchanged { sketch.new.value ≡ sketch.old.value }
+{
+    intersection.owned().add(sketch.owned())
+}
+
+/// Intersects with the sketch that the bytes begin with, as `kcp_intersection_add_image` does. Refused as that call and
+/// `kcp_sums_intersection_add` are.
+#[unsafe(no_mangle)]
+pub extern "C" fn kcp_sums_intersection_add_image(
+    alloc: Global,
+    intersection: &mut SumsIntersectionHandle,
+    image: &[u8],
+) -> u32
+    ensures { OnObject (OfSumsImage MeetsShownSums (λ i. i.seed) image.now) intersection.old.value result intersection.new.value }
+{
+    intersection.owned().add_image(alloc, image)
+}
+
+/// Makes the intersection's value as an ordered compact sketch. Refused with `INVALID_ARGUMENT` before the first
+/// sketch, and with `OUT_OF_MEMORY`.
+#[unsafe(no_mangle)]
+pub extern "C" fn kcp_sums_intersection_result(
+    alloc: Global,
+    intersection: &mut SumsIntersectionHandle,
+    out: &mut CompactSumsHandle,
+) -> u32
+    ensures made { FillsFrom IsSumsIntersectionResult IsNoSumsResult intersection.old.value out.old.value result out.new.value }
+    ensures unchanged { intersection.new.value ≡ intersection.old.value }
+{
+    intersection.owned().compact(alloc, out.owned())
+}

@@ -1,0 +1,105 @@
+//! Unions of tuple sketches of sums.
+ghost use Rattle.std.specs.Prelude.{◌≡◌, None};
+ghost use Rattle.c_objects.specs.Buffer.{WritesOf};
+ghost use Rattle.c_objects.specs.CompactSums.{OfSums, OfCompactSums, OfSumsImage};
+ghost use Rattle.c_handles.specs.Calls.{OnObject, OnObjectWith, Fills, FillsFrom};
+ghost use Rattle.c_objects.specs.Settings.{IsSettingsRefusal};
+ghost use Rattle.c_objects.specs.SumsUnion.{IsNewSumsUnion, AddsShownSums, IsSumsUnionResult, IsSumsUnionImage, IsSumsResultRefusal, ResetsSumsUnion};
+
+use c_handles::handles::{CompactSumsHandle, SumsHandle, SumsUnionHandle};
+use c_objects::sums_union::built;
+use std::alloc::Global;
+
+/// Makes a union of 2^`lg_k` nominal entries, refused as `kcp_theta_new` is. Its value is that of a union of theta
+/// sketches, and beside each hash the sum of the sums of all sketches.
+#[unsafe(no_mangle)]
+pub extern "C" fn kcp_sums_union_new(
+    alloc: Global,
+    union: &mut SumsUnionHandle,
+    lg_k: u8,
+    seed: u64,
+) -> u32
+    ensures { Fills (IsNewSumsUnion lg_k seed) (IsSettingsRefusal lg_k seed) union.old.value result union.new.value }
+{
+    union.owned().put(alloc, built(alloc, lg_k, seed))
+}
+
+/// Frees the union of a handle, if it has one.
+#[unsafe(no_mangle)]
+pub extern "C" fn kcp_sums_union_free(alloc: Global, union: &mut SumsUnionHandle)
+    ensures { union.new.value ≡ None }
+{
+    union.owned().free(alloc);
+}
+
+/// Merges a sketch that takes updates into the union, as `kcp_union_add` does.
+///
+/// Refused as that call is; and with `POLICY` if the sums of one hash are 2^64 or more together, after which the union
+/// has failed until it is reset.
+#[unsafe(no_mangle)]
+pub extern "C" fn kcp_sums_union_add(union: &mut SumsUnionHandle, sketch: &mut SumsHandle) -> u32
+    ensures added { OnObjectWith (OfSums AddsShownSums) sketch.old.value union.old.value result union.new.value }
+    ensures unchanged { sketch.new.value ≡ sketch.old.value }
+{
+    union.owned().add(sketch.owned())
+}
+
+/// Merges a compact sketch into the union, as `kcp_sums_union_add` does.
+#[unsafe(no_mangle)]
+pub extern "C" fn kcp_sums_union_add_compact(
+    union: &mut SumsUnionHandle,
+    sketch: &mut CompactSumsHandle,
+) -> u32
+    ensures added { OnObjectWith (OfCompactSums AddsShownSums) sketch.old.value union.old.value result union.new.value }
+    ensures unchanged { sketch.new.value ≡ sketch.old.value }
+{
+    union.owned().add(sketch.owned())
+}
+
+/// Merges the sketch that the bytes begin with, as `kcp_union_add_image` does. Refused as that call and
+/// `kcp_sums_union_add` are.
+#[unsafe(no_mangle)]
+pub extern "C" fn kcp_sums_union_add_image(
+    alloc: Global,
+    union: &mut SumsUnionHandle,
+    image: &[u8],
+) -> u32
+    ensures { OnObject (OfSumsImage AddsShownSums (λ u. u.seed) image.now) union.old.value result union.new.value }
+{
+    union.owned().add_image(alloc, image)
+}
+
+/// Makes the union's value as an ordered compact sketch. Refused with `FAILED` if the union has failed, and with
+/// `OUT_OF_MEMORY`.
+#[unsafe(no_mangle)]
+pub extern "C" fn kcp_sums_union_result(
+    alloc: Global,
+    union: &mut SumsUnionHandle,
+    out: &mut CompactSumsHandle,
+) -> u32
+    ensures made { FillsFrom IsSumsUnionResult IsSumsResultRefusal union.old.value out.old.value result out.new.value }
+    ensures unchanged { union.new.value ≡ union.old.value }
+{
+    union.owned().compact(alloc, out.owned())
+}
+
+/// Writes the image of that sketch, refused as `kcp_sums_union_result` is.
+#[unsafe(no_mangle)]
+pub extern "C" fn kcp_sums_union_image(
+    union: &mut SumsUnionHandle,
+    out: &mut [u8],
+    length: &mut u64,
+) -> u32
+    ensures image { WritesOf IsSumsUnionImage IsSumsResultRefusal union.old.value out.old length.old result out.new length.new }
+    ensures unchanged { union.new.value ≡ union.old.value }
+{
+    union.owned().image(out, length)
+}
+
+/// Makes the union empty again, as when it was new, and ends a failure.
+#[unsafe(no_mangle)]
+pub extern "C" fn kcp_sums_union_reset(union: &mut SumsUnionHandle) -> u32
+    ensures { OnObject ResetsSumsUnion union.old.value result union.new.value }
+{
+    union.owned().reset()
+}

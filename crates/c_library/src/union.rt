@@ -1,0 +1,93 @@
+//! Unions of theta sketches.
+ghost use Rattle.std.specs.Prelude.{◌≡◌, None};
+ghost use Rattle.c_objects.specs.Buffer.{WritesOf};
+ghost use Rattle.c_handles.specs.Calls.{OnObject, OnObjectWith, Fills, FillsFrom};
+ghost use Rattle.c_objects.specs.Settings.{IsSettingsRefusal};
+ghost use Rattle.c_objects.specs.Thetas.{OfSketch, OfCompact, OfImage};
+ghost use Rattle.c_objects.specs.Union.{IsNewUnion, AddsShown, IsUnionResult, IsUnionImage, IsResultRefusal, ResetsUnion};
+
+use c_handles::handles::{CompactHandle, ThetaHandle, UnionHandle};
+use c_objects::union::built;
+use std::alloc::Global;
+
+/// Makes a union of 2^`lg_k` nominal entries. Its value has the hashes of all its sketches below their least theta; if
+/// these are more than k = 2^`lg_k`, the k least, and its theta is the (k+1)th.
+///
+/// Refused as `kcp_theta_new` is.
+#[unsafe(no_mangle)]
+pub extern "C" fn kcp_union_new(alloc: Global, union: &mut UnionHandle, lg_k: u8, seed: u64) -> u32
+    ensures { Fills (IsNewUnion lg_k seed) (IsSettingsRefusal lg_k seed) union.old.value result union.new.value }
+{
+    union.owned().put(alloc, built(alloc, lg_k, seed))
+}
+
+/// Frees the union of a handle, if it has one.
+#[unsafe(no_mangle)]
+pub extern "C" fn kcp_union_free(alloc: Global, union: &mut UnionHandle)
+    ensures { union.new.value ≡ None }
+{
+    union.owned().free(alloc);
+}
+
+/// Merges a sketch that takes updates into the union. An empty sketch changes nothing.
+///
+/// Refused with `INVALID_ARGUMENT` for a sketch of another seed, and with `FAILED` if the union has failed, whatever
+/// the sketch; then nothing has changed. Refused with `OUT_OF_MEMORY`; then the union has failed until it is reset.
+#[unsafe(no_mangle)]
+pub extern "C" fn kcp_union_add(union: &mut UnionHandle, sketch: &mut ThetaHandle) -> u32
+    ensures added { OnObjectWith (OfSketch AddsShown) sketch.old.value union.old.value result union.new.value }
+    ensures unchanged { sketch.new.value ≡ sketch.old.value }
+{
+    union.owned().add(sketch.owned())
+}
+
+/// Merges a compact sketch into the union, as `kcp_union_add` does.
+#[unsafe(no_mangle)]
+pub extern "C" fn kcp_union_add_compact(union: &mut UnionHandle, sketch: &mut CompactHandle) -> u32
+    ensures added { OnObjectWith (OfCompact AddsShown) sketch.old.value union.old.value result union.new.value }
+    ensures unchanged { sketch.new.value ≡ sketch.old.value }
+{
+    union.owned().add(sketch.owned())
+}
+
+/// Merges the sketch that the bytes begin with, read under the union's seed, as `kcp_union_add` does.
+///
+/// Refused with `INVALID_DATA` if the bytes begin with no sketch of this seed, and otherwise as `kcp_union_add` is; but
+/// if memory runs out while the image is read, nothing has changed.
+#[unsafe(no_mangle)]
+pub extern "C" fn kcp_union_add_image(alloc: Global, union: &mut UnionHandle, image: &[u8]) -> u32
+    ensures { OnObject (OfImage AddsShown (λ u. u.seed) image.now) union.old.value result union.new.value }
+{
+    union.owned().add_image(alloc, image)
+}
+
+/// Makes the union's value as an ordered compact sketch. Refused with `FAILED` if the union has failed, and with
+/// `OUT_OF_MEMORY`.
+#[unsafe(no_mangle)]
+pub extern "C" fn kcp_union_result(
+    alloc: Global,
+    union: &mut UnionHandle,
+    out: &mut CompactHandle,
+) -> u32
+    ensures made { FillsFrom IsUnionResult IsResultRefusal union.old.value out.old.value result out.new.value }
+    ensures unchanged { union.new.value ≡ union.old.value }
+{
+    union.owned().compact(alloc, out.owned())
+}
+
+/// Writes the image of that sketch, refused as `kcp_union_result` is.
+#[unsafe(no_mangle)]
+pub extern "C" fn kcp_union_image(union: &mut UnionHandle, out: &mut [u8], length: &mut u64) -> u32
+    ensures image { WritesOf IsUnionImage IsResultRefusal union.old.value out.old length.old result out.new length.new }
+    ensures unchanged { union.new.value ≡ union.old.value }
+{
+    union.owned().image(out, length)
+}
+
+/// Makes the union empty again, as when it was new, and ends a failure.
+#[unsafe(no_mangle)]
+pub extern "C" fn kcp_union_reset(union: &mut UnionHandle) -> u32
+    ensures { OnObject ResetsUnion union.old.value result union.new.value }
+{
+    union.owned().reset()
+}

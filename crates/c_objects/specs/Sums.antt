@@ -1,0 +1,88 @@
+-- Calls on tuple sketches whose summaries are sums of 64 bits.
+use Rattle.std.specs.Prelude.{◌≡◌, ◌≢◌, ◌^◌, ℕ, List, true, false, nat_lt, length, IsTrue, Some, None}
+use Rattle.std.specs.Int.{w64, to_le_bytes}
+use Rattle.sketch_base.specs.Seed.{hash_of}
+use Rattle.core_compact.specs.CompactState.{Compact, IsAnswer}
+use Rattle.core_laws.specs.Insertion.{upsert_refusal, upsert_allocates}
+use Rattle.core_policies.specs.Sums.{adds}
+use Rattle.core_slots.specs.Entry.{tuple_key}
+use Rattle.core_slots.specs.declared.entry.TupleEntry.{TupleEntry}
+use Rattle.core_state.specs.Updatable.{Updatable, sketch_value}
+use Rattle.core_table.specs.HashTable.{empty_table, after_insertion, after_reset, trimmed_table}
+use Rattle.totals.specs.Totals.{sum_of}
+use Rattle.tuple_sketches.specs.Image.{written}
+use Rattle.tuple_sketches.specs.Sketch.{sketch_state}
+use Rattle.c_objects.specs.Status.{IsRefusal}
+use Rattle.c_objects.specs.Thetas.{value_state}
+use Rattle.c_objects.specs.declared.compact_sums.CompactSums.{CompactSums}
+use Rattle.c_objects.specs.declared.state.State.{State}
+use Rattle.c_objects.specs.declared.sums.SeededSums.{SeededSums}
+
+-- what contracts see of a tuple sketch
+abbrev pub sums_sketch : SeededSums → Updatable (TupleEntry ℕ)
+sums_sketch t = sketch_state t.sketch
+
+-- a new sketch: empty, with these settings
+abbrev pub IsNewSums : (lg_k start seed : ℕ) → SeededSums → Type 0
+IsNewSums lg_k start seed t = (t.seed ≡ seed) × ((sums_sketch t).empty ≡ true) × ((sums_sketch t).map ≡ empty_table lg_k start seed)
+
+-- a copy of a sketch: the same entries, theta and settings
+abbrev pub IsSameSums : (old new : SeededSums) → Type 0
+IsSameSums old new = (new.seed ≡ old.seed) × ((sums_sketch new).empty ≡ (sums_sketch old).empty) × ((sums_sketch new).map ≡ (sums_sketch old).map)
+
+-- a value was added to the sum at a hash
+abbrev pub AcceptsValue : (hash value : ℕ) → (old new : Updatable (TupleEntry ℕ)) → Type 0
+AcceptsValue hash value old new =
+    (new.empty ≡ false)
+    × (new.map ≡ after_insertion tuple_key hash (adds hash value) old.map)
+    × (upsert_refusal tuple_key hash (adds hash value) old.map.kept ≡ None)
+
+-- the refusal of adding a value at a hash: a sum of 2^64 or more, or memory for a new hash below theta
+abbrev pub RefusesValue : (hash value : ℕ) → Updatable (TupleEntry ℕ) → (status : ℕ) → Type 0
+RefusesValue hash value old status =
+    let step = record (adds hash value) { allocates = false } in
+    IsRefusal (upsert_refusal tuple_key hash (adds hash value) old.map.kept) (upsert_allocates tuple_key hash step old.map.kept) status
+
+-- a value was added to the sum at a hash, with status 0; or it was refused, with 4 for a sum of 2^64 or more and with 3 for
+-- memory, which is requested only for a new hash below theta, and nothing has changed
+abbrev pub AddsValue : (hash value : ℕ) → (old : SeededSums) → (status : ℕ) → (new : SeededSums) → Type 0
+AddsValue hash value old status new =
+    (new.seed ≡ old.seed)
+    × (status ≡ 0 → AcceptsValue hash value (sums_sketch old) (sums_sketch new))
+    × (status ≢ 0 → RefusesValue hash value (sums_sketch old) status × ((sums_sketch new).empty ≡ (sums_sketch old).empty) × ((sums_sketch new).map ≡ (sums_sketch old).map))
+
+-- a value was added to the sum of a number, by the hash of its eight bytes, the lowest first
+abbrev pub AddsAtNumber : (number value : ℕ) → (old : SeededSums) → (status : ℕ) → (new : SeededSums) → Type 0
+AddsAtNumber number value old status new = AddsValue (hash_of old.seed (to_le_bytes w64 number)) value old status new
+
+-- a value was added to the sum of bytes, by their hash
+abbrev pub AddsAtBytes : (bytes : List ℕ) → (value : ℕ) → (old : SeededSums) → (status : ℕ) → (new : SeededSums) → Type 0
+AddsAtBytes bytes value old status new = AddsValue (hash_of old.seed bytes) value old status new
+
+-- the sketch was cut to its nominal entries, with status 0; or memory was refused, with 3, and nothing has changed
+abbrev pub TrimsSums : (old : SeededSums) → (status : ℕ) → (new : SeededSums) → Type 0
+TrimsSums old status new =
+    (new.seed ≡ old.seed)
+    × ((sums_sketch new).empty ≡ (sums_sketch old).empty)
+    × (status ≡ 0 → (sums_sketch new).map ≡ trimmed_table tuple_key (sums_sketch old).map)
+    × (status ≢ 0 → (status ≡ 3) × ((sums_sketch new).map ≡ (sums_sketch old).map) × IsTrue (nat_lt (2 ^ (sums_sketch old).map.lg_nom) (length (sums_sketch old).map.kept.entries)))
+
+-- the sketch is empty again, as when it was new
+abbrev pub ResetsSums : (old : SeededSums) → (status : ℕ) → (new : SeededSums) → Type 0
+ResetsSums old status new = (status ≡ 0) × (new.seed ≡ old.seed) × ((sums_sketch new).empty ≡ true) × ((sums_sketch new).map ≡ after_reset (sums_sketch old).map)
+
+-- the state of a sketch
+abbrev pub sums_state : SeededSums → State
+sums_state t = value_state (sums_sketch t).empty (sketch_value (sums_sketch t))
+
+-- the image of the ordered compact form of a sketch: after each hash its sum's eight bytes, the lowest first
+abbrev pub IsImageOfSums : SeededSums → List ℕ → Type 0
+IsImageOfSums t image = (s : Compact (TupleEntry ℕ)) × (image ≡ written (λ sum. to_le_bytes w64 sum) s) × IsAnswer tuple_key (sketch_value (sums_sketch t)) (sums_sketch t).map.seed_hash true s
+
+-- the ordered compact form of a sketch
+abbrev pub IsCompactFormOfSums : SeededSums → CompactSums → Type 0
+IsCompactFormOfSums t s = IsAnswer tuple_key (sketch_value (sums_sketch t)) (sums_sketch t).map.seed_hash true s.sketch
+
+-- the total of a sketch: the sum of its sums
+abbrev pub sums_total : SeededSums → ℕ
+sums_total t = sum_of (sums_sketch t).sequence

@@ -1,0 +1,67 @@
+-- Calls on intersections of tuple sketches of sums, and differences of these.
+use Rattle.std.specs.Prelude.{◌≡◌, ◌⊎◌, ℕ, List, true, None, Some}
+use Rattle.sketch_base.specs.Seed.{seed_hash}
+use Rattle.sketch_base.specs.declared.error.ErrorKind.{ErrorKind}
+use Rattle.core_compact.specs.CompactState.{shown_of}
+use Rattle.core_laws.specs.Shown.{Shown}
+use Rattle.core_operators.specs.ANotB.{IsDifference}
+use Rattle.core_operators.specs.Intersection.{Intersection, new_intersection, intersect_refusal, IsAnswerIfAny, IsMet, IsIntersectError}
+use Rattle.core_policies.specs.Summaries.{combined, combine_refused}
+use Rattle.core_policies.specs.Sums.{unsigned_sum}
+use Rattle.core_policies.specs.declared.default_union.DefaultUnionPolicy.{DefaultUnionPolicy}
+use Rattle.core_slots.specs.Entry.{tuple_key}
+use Rattle.core_slots.specs.declared.entry.TupleEntry.{TupleEntry}
+use Rattle.c_objects.specs.Intersection.{IsNoValue, RefusesDifference, AcceptsDifference}
+use Rattle.c_objects.specs.Status.{status_of}
+use Rattle.c_objects.specs.declared.compact_sums.CompactSums.{CompactSums}
+use Rattle.c_objects.specs.declared.sums_intersection.SeededSumsIntersection.{SeededSumsIntersection}
+
+-- what contracts see of an intersection
+abbrev pub sums_intersection_of : SeededSumsIntersection → Intersection (TupleEntry ℕ) (DefaultUnionPolicy ℕ)
+sums_intersection_of i = i.intersection.state
+
+-- a new intersection, without a value
+abbrev pub IsNewSumsIntersection : (seed : ℕ) → SeededSumsIntersection → Type 0
+IsNewSumsIntersection seed i = (i.seed ≡ seed) × (sums_intersection_of i ≡ new_intersection (seed_hash seed) (sums_intersection_of i).policy)
+
+-- a sketch that shows this was intersected: the new value has the hashes that both have, each with its two sums added, none of
+-- which is 2^64 or more
+abbrev pub MeetsSums : Shown → (listing : List (TupleEntry ℕ)) → (old new : Intersection (TupleEntry ℕ) (DefaultUnionPolicy ℕ)) → Type 0
+MeetsSums shown listing old new =
+    (intersect_refusal old shown ≡ None)
+    × IsMet tuple_key (combined (unsigned_sum 64)) (combine_refused (unsigned_sum 64)) old new shown listing
+    × (new ≡ record old { result = new.result })
+
+-- the error of an intersection, which is unchanged: a sketch of another seed, memory, or two sums of one hash below the lesser
+-- theta that are 2^64 or more together
+abbrev pub IsSumsMeetError : Shown → (listing : List (TupleEntry ℕ)) → (old new : Intersection (TupleEntry ℕ) (DefaultUnionPolicy ℕ)) → ErrorKind → Type 0
+IsSumsMeetError shown listing old new e = IsIntersectError tuple_key (combine_refused (unsigned_sum 64)) old new shown listing e
+
+-- a sketch was intersected, with status 0; or it was refused, with 1 for another seed, with 3 for memory and with 4 for a sum of
+-- 2^64 or more, and nothing has changed
+unfoldable pub MeetsShownSums : Shown → List (TupleEntry ℕ) → (old : SeededSumsIntersection) → (status : ℕ) → (new : SeededSumsIntersection) → Type 0
+MeetsShownSums shown listing old status new =
+    (new.seed ≡ old.seed)
+    × (((status ≡ 0) × MeetsSums shown listing (sums_intersection_of old) (sums_intersection_of new))
+    ⊎ ((e : ErrorKind) × (status ≡ status_of e) × IsSumsMeetError shown listing (sums_intersection_of old) (sums_intersection_of new) e))
+
+-- the intersection's value as an ordered compact sketch
+abbrev pub IsSumsIntersectionResult : SeededSumsIntersection → CompactSums → Type 0
+IsSumsIntersectionResult i s = IsAnswerIfAny tuple_key (sums_intersection_of i).result (sums_intersection_of i).seed_hash true (Some s.sketch)
+
+-- the refusal of the result: 1 before the first sketch, and otherwise 3
+abbrev pub IsNoSumsResult : SeededSumsIntersection → (status : ℕ) → Type 0
+IsNoSumsResult i status = IsNoValue (sums_intersection_of i).result status
+
+-- the difference of two compact sketches, ordered: the entries of the first whose hashes the second lacks, with their sums
+abbrev pub IsDifferenceOfSums : (first second : CompactSums) → CompactSums → Type 0
+IsDifferenceOfSums first second s =
+    IsDifference tuple_key (shown_of tuple_key first.sketch) first.sketch.entries (shown_of tuple_key second.sketch) true s.sketch
+
+-- the refusal of a difference
+abbrev pub IsSumsDifferenceRefusal : (seed : ℕ) → (first second : CompactSums) → (status : ℕ) → Type 0
+IsSumsDifferenceRefusal seed first second status = RefusesDifference seed (shown_of tuple_key first.sketch) (shown_of tuple_key second.sketch) status
+
+-- a difference is not refused
+abbrev pub AreSumsOfSeed : (seed : ℕ) → (first second : CompactSums) → Type 0
+AreSumsOfSeed seed first second = AcceptsDifference seed (shown_of tuple_key first.sketch) (shown_of tuple_key second.sketch)

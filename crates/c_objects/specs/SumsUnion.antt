@@ -1,0 +1,73 @@
+-- Calls on unions of tuple sketches of sums.
+use Rattle.std.specs.Prelude.{◌≡◌, ◌⊎◌, ℕ, List, true, not, None}
+use Rattle.std.specs.Int.{w64, to_le_bytes}
+use Rattle.sketch_base.specs.Seed.{seed_hash}
+use Rattle.sketch_base.specs.declared.error.ErrorKind.{ErrorKind}
+use Rattle.core_compact.specs.CompactState.{Compact, IsAnswer}
+use Rattle.core_laws.specs.Shown.{Shown}
+use Rattle.core_laws.specs.declared.TheConstants.{MAX_THETA}
+use Rattle.core_operators.specs.Union.{Union, empty_union, union_value, update_refusal, failure, JoinsSummaries, UnitesSummaries, IsUpdateError}
+use Rattle.core_policies.specs.Summaries.{combine_refused}
+use Rattle.core_policies.specs.Sums.{unsigned_sum}
+use Rattle.core_policies.specs.declared.default_union.DefaultUnionPolicy.{DefaultUnionPolicy}
+use Rattle.core_slots.specs.Entry.{tuple_key}
+use Rattle.core_slots.specs.declared.entry.TupleEntry.{TupleEntry}
+use Rattle.tuple_sketches.specs.Image.{written}
+use Rattle.tuple_sketches.specs.Sketch.{union_state}
+use Rattle.c_objects.specs.Status.{status_of, IsRefusal}
+use Rattle.c_objects.specs.declared.compact_sums.CompactSums.{CompactSums}
+use Rattle.c_objects.specs.declared.sums_union.SeededSumsUnion.{SeededSumsUnion}
+
+-- what contracts see of a union
+abbrev pub sums_union_of : SeededSumsUnion → Union (TupleEntry ℕ) (DefaultUnionPolicy ℕ)
+sums_union_of u = union_state u.union
+
+-- a new union, without sketches
+abbrev pub IsNewSumsUnion : (lg_k seed : ℕ) → SeededSumsUnion → Type 0
+IsNewSumsUnion lg_k seed u = (u.seed ≡ seed) × (sums_union_of u ≡ empty_union lg_k MAX_THETA (seed_hash seed) (sums_union_of u).policy)
+
+-- a sketch that shows this was merged: the union's value is united with the sketch's, in which the sums of one hash are added,
+-- and only an Empty sketch changes nothing
+abbrev pub MergesSums : Shown → (listing : List (TupleEntry ℕ)) → (old new : Union (TupleEntry ℕ) (DefaultUnionPolicy ℕ)) → Type 0
+MergesSums shown listing old new =
+    (update_refusal old shown ≡ None)
+    × (shown.empty ≡ true → new ≡ old)
+    × UnitesSummaries (unsigned_sum 64) old new shown listing
+    × JoinsSummaries (unsigned_sum 64) old new shown listing
+    × (new ≡ record old { empty = new.empty; content = new.content })
+
+-- the error of a merge: the union refused the sketch and is unchanged; or memory was refused, or two sums of one hash are 2^64
+-- or more together, and the union has failed
+abbrev pub IsSumsMergeError : Shown → (listing : List (TupleEntry ℕ)) → (old new : Union (TupleEntry ℕ) (DefaultUnionPolicy ℕ)) → ErrorKind → Type 0
+IsSumsMergeError shown listing old new e = IsUpdateError tuple_key (combine_refused (unsigned_sum 64)) old new shown listing e
+
+-- a sketch was merged, with status 0; or the union refused it, with 1 for another seed and with 5 if it has failed, and is
+-- unchanged; or it has failed now, with 3 for memory and with 4 for a sum of 2^64 or more
+unfoldable pub AddsShownSums : Shown → (listing : List (TupleEntry ℕ)) → (old : SeededSumsUnion) → (status : ℕ) → (new : SeededSumsUnion) → Type 0
+AddsShownSums shown listing old status new =
+    (new.seed ≡ old.seed)
+    × (((status ≡ 0) × MergesSums shown listing (sums_union_of old) (sums_union_of new))
+    ⊎ ((e : ErrorKind) × (status ≡ status_of e) × IsSumsMergeError shown listing (sums_union_of old) (sums_union_of new) e))
+
+-- an ordered compact sketch of the union's value
+abbrev pub IsValueOfSums : SeededSumsUnion → Compact (TupleEntry ℕ) → Type 0
+IsValueOfSums u s = IsAnswer tuple_key (union_value tuple_key (sums_union_of u)) (sums_union_of u).seed_hash true s
+
+-- the union's value as an ordered compact sketch
+abbrev pub IsSumsUnionResult : SeededSumsUnion → CompactSums → Type 0
+IsSumsUnionResult u s = IsValueOfSums u s.sketch
+
+-- the image of the union's value, ordered
+abbrev pub IsSumsUnionImage : SeededSumsUnion → List ℕ → Type 0
+IsSumsUnionImage u image = (s : Compact (TupleEntry ℕ)) × (image ≡ written (λ sum. to_le_bytes w64 sum) s) × IsValueOfSums u s
+
+-- the refusal of the result: 5 if the union has failed, and otherwise 3
+abbrev pub IsSumsResultRefusal : SeededSumsUnion → (status : ℕ) → Type 0
+IsSumsResultRefusal u status = IsRefusal (failure (sums_union_of u).failed) (not (sums_union_of u).failed) status
+
+-- the union is as when it was new
+abbrev pub ResetsSumsUnion : (old : SeededSumsUnion) → (status : ℕ) → (new : SeededSumsUnion) → Type 0
+ResetsSumsUnion old status new =
+    (status ≡ 0)
+    × (new.seed ≡ old.seed)
+    × (sums_union_of new ≡ empty_union (sums_union_of old).lg_k (sums_union_of old).start (sums_union_of old).seed_hash (sums_union_of old).policy)

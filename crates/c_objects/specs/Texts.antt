@@ -1,0 +1,38 @@
+-- Calls on a sketch and a text that comes in pieces: by both before, the status and both after.
+use Rattle.std.specs.Prelude.{◌≡◌, ◌≢◌, ◌++◌, ◌⊎◌, ℕ, List}
+use Rattle.keys_lines.specs.Keys.{hashing_of}
+use Rattle.keys_lines.specs.Lines.{lines_of}
+use Rattle.keys_lines.specs.declared.key.Key.TheVariants.{Line}
+use Rattle.keys_sketches.specs.Keys.{LineState, line_state, with_lines}
+use Rattle.keys_sketches.specs.Pieces.{HasInserted, IsAtStart, StopsInPiece}
+use Rattle.keys_sketches.specs.declared.pieces.OpenText.{OpenText}
+use Rattle.c_objects.specs.declared.theta.SeededSketch.{SeededSketch}
+
+-- a text of which no byte has come, whose whole lines are hashed under this seed
+abbrev pub IsNewText : (seed : ℕ) → OpenText → Type 0
+IsNewText seed t = IsAtStart (hashing_of Line seed) t
+
+-- a text of another seed was refused, with 1, and nothing has changed
+abbrev pub RefusesText : (old_text : OpenText) → (old : SeededSketch) → (status : ℕ) → (new_text : OpenText) → (new : SeededSketch) → Type 0
+RefusesText old_text old status new_text new = (old_text.hashing.seed ≢ old.seed) × (status ≡ 1) × (new_text ≡ old_text) × (new ≡ old)
+
+-- The lines that end in a piece of a text were inserted, with status 0: if those of the pieces before were inserted since the
+-- sketch was in the state `start`, all of the longer text are, but for its open line. Or memory was refused, with 3: exactly
+-- some first lines of the piece were inserted, and the text is as before the piece.
+abbrev pub UpdatesText : (piece : List ℕ) → (old_text : OpenText) → (old : SeededSketch) → (status : ℕ) → (new_text : OpenText) → (new : SeededSketch) → Type 0
+UpdatesText piece old_text old status new_text new =
+    RefusesText old_text old status new_text new
+    ⊎ ((new.seed ≡ old.seed)
+    × (new_text.hashing ≡ old_text.hashing)
+    × (((status ≡ 0) × ((start : LineState) (text : List ℕ) → HasInserted start text (line_state old.sketch) old_text → HasInserted start (text ++ piece) (line_state new.sketch) new_text))
+    ⊎ ((status ≡ 3) × (new_text ≡ old_text) × StopsInPiece piece (line_state old.sketch) (line_state new.sketch) old_text)))
+
+-- A text was ended, with status 0: the sketch is as after the lines of the whole text, in their order, since the state
+-- `start`, and another text may begin. Or memory was refused, with 3, and nothing has changed.
+abbrev pub EndsText : (old_text : OpenText) → (old : SeededSketch) → (status : ℕ) → (new_text : OpenText) → (new : SeededSketch) → Type 0
+EndsText old_text old status new_text new =
+    RefusesText old_text old status new_text new
+    ⊎ ((new.seed ≡ old.seed)
+    × (((status ≡ 0) × IsAtStart old_text.hashing new_text
+    × ((start : LineState) (text : List ℕ) → HasInserted start text (line_state old.sketch) old_text → line_state new.sketch ≡ with_lines old_text.hashing start (lines_of text)))
+    ⊎ ((status ≡ 3) × (new_text ≡ old_text) × (line_state new.sketch ≡ line_state old.sketch))))

@@ -1,0 +1,118 @@
+-- Calls on theta sketches: by the sketch before, the arguments, the status and the sketch after.
+use Rattle.std.specs.Prelude.{◌≡◌, ◌≢◌, ◌⊎◌, ◌^◌, ◌==◌, ◌&&◌, ℕ, Bool, List, length, true, false, nat_lt, if◌then◌else◌, IsTrue}
+use Rattle.std.specs.Int.{w64, to_le_bytes}
+use Rattle.sketch_base.specs.Seed.{hash_of, seed_hash}
+use Rattle.core_compact.specs.CompactState.{Compact, IsAnswer, shown_of}
+use Rattle.core_laws.specs.Entries.{hash_key}
+use Rattle.core_laws.specs.Shown.{Shown}
+use Rattle.core_laws.specs.Values.{Sketch, theta_of, count_of}
+use Rattle.core_state.specs.Updatable.{sketch_value, sketch_shows, StopsUpdates}
+use Rattle.core_table.specs.HashTable.{empty_table, after_hash, after_hashes, after_reset, hash_allocates, trimmed_table}
+use Rattle.theta_sketches.specs.Image.{Reads, IsReadable, written}
+use Rattle.c_objects.specs.Status.{IsUnreadStatus}
+use Rattle.c_objects.specs.declared.compact.CompactSketch.{CompactSketch}
+use Rattle.c_objects.specs.declared.state.State.{State}
+use Rattle.c_objects.specs.declared.theta.SeededSketch.{SeededSketch}
+
+-- a new sketch: empty, with these settings
+abbrev pub IsNewSketch : (lg_k start seed : ℕ) → SeededSketch → Type 0
+IsNewSketch lg_k start seed t = (t.seed ≡ seed) × (t.sketch.empty ≡ true) × (t.sketch.map ≡ empty_table lg_k start seed)
+
+-- a copy of a sketch: the same entries, theta and settings
+abbrev pub IsSameSketch : (old new : SeededSketch) → Type 0
+IsSameSketch old new = (new.seed ≡ old.seed) × (new.sketch.empty ≡ old.sketch.empty) × (new.sketch.map ≡ old.sketch.map)
+
+-- a hash was inserted, with status 0; or memory was refused, which an insertion requests only for a new hash below theta,
+-- with status 3, and nothing has changed
+abbrev pub UpdatesHash : (hash : ℕ) → (old : SeededSketch) → (status : ℕ) → (new : SeededSketch) → Type 0
+UpdatesHash hash old status new =
+    (new.seed ≡ old.seed)
+    × (status ≡ 0 → (new.sketch.empty ≡ false) × (new.sketch.map ≡ after_hash hash old.sketch.map))
+    × (status ≢ 0 → (status ≡ 3) × (new.sketch.empty ≡ old.sketch.empty) × (new.sketch.map ≡ old.sketch.map) × IsTrue (hash_allocates hash old.sketch.map.kept))
+
+-- a number of 64 bits was inserted by the hash of its eight bytes, the lowest first
+abbrev pub UpdatesNumber : (number : ℕ) → (old : SeededSketch) → (status : ℕ) → (new : SeededSketch) → Type 0
+UpdatesNumber number old status new = UpdatesHash (hash_of old.seed (to_le_bytes w64 number)) old status new
+
+-- bytes were inserted by their hash
+abbrev pub UpdatesBytes : (bytes : List ℕ) → (old : SeededSketch) → (status : ℕ) → (new : SeededSketch) → Type 0
+UpdatesBytes bytes old status new = UpdatesHash (hash_of old.seed bytes) old status new
+
+-- hashes were inserted in turn, with status 0; or, with status 3, exactly those before one for which memory was refused
+abbrev pub UpdatesHashes : (hashes : List ℕ) → (old : SeededSketch) → (status : ℕ) → (new : SeededSketch) → Type 0
+UpdatesHashes hashes old status new =
+    (new.seed ≡ old.seed)
+    × (status ≡ 0 → (new.sketch.map ≡ after_hashes hashes old.sketch.map) × (new.sketch.empty ≡ (old.sketch.empty && length hashes == 0)))
+    × (status ≢ 0 → (status ≡ 3) × StopsUpdates hashes old.sketch new.sketch)
+
+-- the sketch was cut to its nominal entries, with status 0; or memory was refused, which a trim requests only if more are
+-- retained, with status 3, and nothing has changed
+abbrev pub Trims : (old : SeededSketch) → (status : ℕ) → (new : SeededSketch) → Type 0
+Trims old status new =
+    (new.seed ≡ old.seed)
+    × (new.sketch.empty ≡ old.sketch.empty)
+    × (status ≡ 0 → new.sketch.map ≡ trimmed_table hash_key old.sketch.map)
+    × (status ≢ 0 → (status ≡ 3) × (new.sketch.map ≡ old.sketch.map) × IsTrue (nat_lt (2 ^ old.sketch.map.lg_nom) (length old.sketch.map.kept.entries)))
+
+-- the sketch is empty again, as when it was new
+abbrev pub Resets : (old : SeededSketch) → (status : ℕ) → (new : SeededSketch) → Type 0
+Resets old status new = (status ≡ 0) × (new.seed ≡ old.seed) × (new.sketch.empty ≡ true) × (new.sketch.map ≡ after_reset old.sketch.map)
+
+-- the state of a value, with whether it is empty
+abbrev pub value_state : {X : Type 0} → Bool → Sketch X → State
+value_state empty v = record { retained = count_of v; theta = theta_of v; empty = (if empty then 1 else 0) }
+
+-- the state of a sketch that takes updates
+abbrev pub theta_state : SeededSketch → State
+theta_state t = value_state t.sketch.empty (sketch_value t.sketch)
+
+-- the state of a compact sketch, of either family
+abbrev pub state_of : {X : Type 0} → Compact X → State
+state_of s = record { retained = length s.entries; theta = s.theta; empty = (if s.empty then 1 else 0) }
+
+abbrev pub compact_state : CompactSketch → State
+compact_state s = state_of s.sketch
+
+-- the image of a compact sketch
+abbrev pub IsCompactImage : CompactSketch → List ℕ → Type 0
+IsCompactImage s image = image ≡ written s.sketch
+
+-- a copy of a compact sketch
+abbrev pub IsCopy : (old new : CompactSketch) → Type 0
+IsCopy old new = new ≡ old
+
+-- the image of the ordered compact form of a sketch
+abbrev pub IsImageOf : SeededSketch → List ℕ → Type 0
+IsImageOf t image = (s : Compact ℕ) × (image ≡ written s) × IsAnswer hash_key (sketch_value t.sketch) t.sketch.map.seed_hash true s
+
+-- the ordered compact form of a sketch
+abbrev pub IsCompactForm : SeededSketch → CompactSketch → Type 0
+IsCompactForm t s = IsAnswer hash_key (sketch_value t.sketch) t.sketch.map.seed_hash true s.sketch
+
+-- the sketch that bytes begin with, read under a seed
+abbrev pub IsReadFrom : (bytes : List ℕ) → (seed : ℕ) → CompactSketch → Type 0
+IsReadFrom bytes seed s = Reads bytes (seed_hash seed) s.sketch
+
+-- the refusal of reading: memory, with 3; or bytes that are read as no sketch, with 2
+abbrev pub IsReadRefusal : (bytes : List ℕ) → (seed : ℕ) → (status : ℕ) → Type 0
+IsReadRefusal bytes seed status = IsUnreadStatus (IsReadable bytes (seed_hash seed)) status
+
+-- the state of the sketch that bytes begin with was written, with status 0; or reading was refused, and nothing is written
+abbrev pub ReadsImageState : (bytes : List ℕ) → (seed : ℕ) → (before : State) → (status : ℕ) → (after : State) → Type 0
+ReadsImageState bytes seed before status after =
+    ((status ≡ 0) × ((s : CompactSketch) × IsReadFrom bytes seed s × (after ≡ compact_state s))) ⊎ (IsReadRefusal bytes seed status × (after ≡ before))
+
+-- a call of an operator on a sketch that takes updates: `Does`, on what the sketch shows and lists
+abbrev pub OfSketch : {O : Type 0} → (Does : Shown → List ℕ → O → ℕ → O → Type 0) → SeededSketch → (old : O) → (status : ℕ) → (new : O) → Type 0
+OfSketch Does t old status new = Does (sketch_shows hash_key t.sketch) t.sketch.sequence old status new
+
+-- .. on a compact sketch
+abbrev pub OfCompact : {O : Type 0} → (Does : Shown → List ℕ → O → ℕ → O → Type 0) → CompactSketch → (old : O) → (status : ℕ) → (new : O) → Type 0
+OfCompact Does s old status new = Does (shown_of hash_key s.sketch) s.sketch.entries old status new
+
+-- .. on the sketch that bytes begin with, read under the operator's seed; or reading was refused, with 2 or 3, and
+-- nothing has changed
+abbrev pub OfImage : {O : Type 0} → (Does : Shown → List ℕ → O → ℕ → O → Type 0) → (seed_in : O → ℕ) → (image : List ℕ) → (old : O) → (status : ℕ) → (new : O) → Type 0
+OfImage Does seed_in image old status new =
+    ((s : Compact ℕ) × Reads image (seed_hash (seed_in old)) s × Does (shown_of hash_key s) s.entries old status new)
+    ⊎ (IsReadRefusal image (seed_in old) status × (new ≡ old))

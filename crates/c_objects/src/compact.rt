@@ -1,0 +1,90 @@
+//! Compact theta sketches, which are immutable.
+ghost use Rattle.c_objects.specs.Intersection.{IsDifferenceOf, AreOfSeed, IsDifferenceRefusal};
+ghost use Rattle.c_objects.specs.Status.{IsMemoryRefusal};
+ghost use Rattle.c_objects.specs.Thetas.{compact_state, IsCompactImage, IsCopy, IsReadFrom, IsReadRefusal};
+ghost use Rattle.c_objects.specs.declared.compact.CompactSketch.{CompactSketch};
+
+use crate::objects::{CanCopy, FromImage, HasDifference, HasImage, HasState};
+use crate::state::State;
+use crate::status::{OUT_OF_MEMORY, status_of};
+use std::alloc::Global;
+use theta_sketches::{CompactThetaSketch, ThetaANotB};
+
+/// A compact sketch.
+#[derive(Drop)]
+pub struct CompactSketch {
+    pub(crate) sketch: CompactThetaSketch,
+}
+
+impl FromImage for CompactSketch {
+    ghost is_read = { IsReadFrom };
+
+    ghost is_unread = { IsReadRefusal };
+
+    fn read(alloc: Global, image: &[u8], seed: u64) -> Result<CompactSketch, u32> {
+        match CompactThetaSketch::deserialize_with_seed(alloc, image, seed) {
+            Ok(sketch) => Ok(CompactSketch { sketch }),
+            Err(error) => Err(status_of(error.kind())),
+        }
+    }
+}
+
+impl HasState for CompactSketch {
+    ghost shown = { compact_state };
+
+    fn state(&self) -> State {
+        State::of(
+            self.sketch.num_retained(),
+            self.sketch.theta64(),
+            self.sketch.is_empty(),
+        )
+    }
+}
+
+impl HasImage for CompactSketch {
+    ghost is_image = { IsCompactImage };
+
+    ghost no_image = { λ _. IsMemoryRefusal };
+
+    fn image(&self) -> Result<Vec<u8>, u32> {
+        match self.sketch.serialize() {
+            Ok(image) => Ok(image),
+            Err(_) => Err(OUT_OF_MEMORY),
+        }
+    }
+}
+
+impl CanCopy for CompactSketch {
+    ghost is_copy = { IsCopy };
+
+    fn copied(&self) -> Result<CompactSketch, u32> {
+        match self.sketch.clone() {
+            Ok(sketch) => Ok(CompactSketch { sketch }),
+            Err(_) => Err(OUT_OF_MEMORY),
+        }
+    }
+}
+
+impl HasDifference for CompactSketch {
+    ghost is_difference = { IsDifferenceOf };
+
+    ghost are_of_seed = { AreOfSeed };
+
+    ghost no_difference = { IsDifferenceRefusal };
+
+    fn difference(
+        &self,
+        alloc: Global,
+        seed: u64,
+        other: &CompactSketch,
+    ) -> Result<CompactSketch, u32> {
+        let difference = match ThetaANotB::with_seed(seed) {
+            Ok(difference) => difference,
+            Err(error) => return Err(status_of(error.kind())),
+        };
+        match difference.compute(alloc, self.sketch.as_view(), other.sketch.as_view(), true) {
+            Ok(sketch) => Ok(CompactSketch { sketch }),
+            Err(error) => Err(status_of(error.kind())),
+        }
+    }
+}

@@ -1,0 +1,136 @@
+//! Compact tuple sketches whose summaries are sums of 64 bits.
+ghost use Rattle.std.specs.Prelude.{◌≡◌, ◌≤◌, ◌++◌, None, length, drop, map};
+ghost use Rattle.core_slots.specs.Entry.{tuple_key};
+ghost use Rattle.c_objects.specs.Status.{IsMemoryRefusal};
+ghost use Rattle.c_objects.specs.SumsIntersection.{IsDifferenceOfSums, AreSumsOfSeed, IsSumsDifferenceRefusal};
+ghost use Rattle.c_objects.specs.CompactSums.{IsCompactSumsImage, IsSumsReadFrom, IsSumsReadRefusal, compact_sums_state, compact_total, PutsEntries};
+ghost use Rattle.c_objects.specs.declared.compact_sums.CompactSums.{CompactSums};
+
+use crate::bounds::{Wide, split};
+use crate::objects::{FromImage, HasDifference, HasImage, HasState, HasTotal};
+use crate::state::State;
+use crate::status::{OK, OUT_OF_MEMORY, TOO_SMALL, status_of};
+use std::alloc::Global;
+use totals::sum_of;
+use tuple_sketches::{CompactTupleSketch, TupleANotB, TupleEntry};
+
+/// A compact sketch of sums.
+#[derive(Drop)]
+pub struct CompactSums {
+    pub(crate) sketch: CompactTupleSketch<u64>,
+}
+
+impl FromImage for CompactSums {
+    ghost is_read = { IsSumsReadFrom };
+
+    ghost is_unread = { IsSumsReadRefusal };
+
+    fn read(alloc: Global, image: &[u8], seed: u64) -> Result<CompactSums, u32> {
+        match CompactTupleSketch::deserialize_with_seed(alloc, image, seed) {
+            Ok(sketch) => Ok(CompactSums { sketch }),
+            Err(error) => Err(status_of(error.kind())),
+        }
+    }
+}
+
+impl HasState for CompactSums {
+    ghost shown = { compact_sums_state };
+
+    fn state(&self) -> State {
+        State::of(
+            self.sketch.num_retained(),
+            self.sketch.theta64(),
+            self.sketch.is_empty(),
+        )
+    }
+}
+
+impl HasTotal for CompactSums {
+    ghost total_sum = { compact_total };
+
+    fn total(&self) -> Wide {
+        // By its contract there are fewer than 2^32 entries.
+        let _ = self.sketch.num_retained();
+        split(sum_of(self.sketch.iter()))
+    }
+}
+
+impl HasImage for CompactSums {
+    ghost is_image = { IsCompactSumsImage };
+
+    ghost no_image = { λ _. IsMemoryRefusal };
+
+    fn image(&self) -> Result<Vec<u8>, u32> {
+        match self.sketch.serialize() {
+            Ok(image) => Ok(image),
+            Err(_) => Err(OUT_OF_MEMORY),
+        }
+    }
+}
+
+impl HasDifference for CompactSums {
+    ghost is_difference = { IsDifferenceOfSums };
+
+    ghost are_of_seed = { AreSumsOfSeed };
+
+    ghost no_difference = { IsSumsDifferenceRefusal };
+
+    fn difference(
+        &self,
+        alloc: Global,
+        seed: u64,
+        other: &CompactSums,
+    ) -> Result<CompactSums, u32> {
+        let difference = match TupleANotB::with_seed(seed) {
+            Ok(difference) => difference,
+            Err(error) => return Err(status_of(error.kind())),
+        };
+        match difference.compute(alloc, self.sketch.as_view(), other.sketch.as_view(), true) {
+            Ok(sketch) => Ok(CompactSums { sketch }),
+            Err(error) => Err(status_of(error.kind())),
+        }
+    }
+}
+
+/// The entries of a sketch, in its order.
+fn entries(sketch: &CompactSums) -> &[TupleEntry<u64>]
+    ensures { result.now ≡ sketch.now.sketch.entries }
+{
+    match sketch.sketch.iter().as_slice() {
+        Some(entries) => entries,
+        None => unreachable!(),
+    }
+}
+
+/// Copies the hashes and the sums of entries to the fronts of two arrays that have room for them.
+fn copy_entries(entries: &[TupleEntry<u64>], hashes: &mut [u64], sums: &mut [u64])
+    requires room_of_hashes { length entries.now ≤ length hashes.old }
+    requires room_of_sums { length entries.now ≤ length sums.old }
+    ensures hashes { hashes.new ≡ map tuple_key entries.now ++ drop (length entries.now) hashes.old }
+    ensures sums { sums.new ≡ map (λ e. e.summary) entries.now ++ drop (length entries.now) sums.old }
+{
+    'copy_each: for at in 0..entries.len() {
+        let entry = &entries[at];
+        hashes[at] = entry.hash();
+        sums[at] = *entry.summary();
+    }
+}
+
+/// Copies the hashes and the sums of a sketch to the fronts of two arrays, and writes how many they are. The status is `OK`, or
+/// `TOO_SMALL` if an array has no room for them.
+pub fn put_entries(
+    sketch: &CompactSums,
+    hashes: &mut [u64],
+    sums: &mut [u64],
+    count: &mut u64,
+) -> u32
+    ensures { PutsEntries sketch.now.sketch.entries hashes.old sums.old result hashes.new sums.new count.new }
+{
+    let entries = entries(sketch);
+    *count = entries.len() as u64;
+    if hashes.len() < entries.len() || sums.len() < entries.len() {
+        return TOO_SMALL;
+    }
+    copy_entries(entries, hashes, sums);
+    OK
+}

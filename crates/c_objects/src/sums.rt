@@ -1,0 +1,158 @@
+//! Tuple sketches whose summaries are sums of 64 bits.
+ghost use Rattle.std.specs.Prelude.{true, IfOk};
+ghost use Rattle.core_laws.specs.Refusal.{Refuses};
+ghost use Rattle.core_laws.specs.Settings.{settings_refusal};
+ghost use Rattle.c_objects.specs.Status.{IsMemoryRefusal};
+ghost use Rattle.c_objects.specs.Sums.{IsNewSums, IsSameSums, AddsValue, AddsAtBytes, AddsAtNumber, TrimsSums, ResetsSums, sums_state, sums_total, IsImageOfSums, IsCompactFormOfSums};
+ghost use Rattle.c_objects.specs.declared.sums.SeededSums.{SeededSums};
+
+use crate::bounds::{Wide, split};
+use crate::compact_sums::CompactSums;
+use crate::hashes::{hash_of_bytes, hash_of_number};
+use crate::objects::{CanCopy, CanReset, CanTrim, HasCompact, HasImage, HasState, HasTotal};
+use crate::state::State;
+use crate::status::{OK, OUT_OF_MEMORY, status_of};
+use sketch_base::Error;
+use std::alloc::Global;
+use totals::sum_of;
+use tuple_sketches::{DefaultUpdatePolicy, ResizeFactor, TupleSketch, TupleSketchBuilder};
+
+/// A sketch of sums, and the seed of its hashes.
+#[derive(Drop)]
+pub struct SeededSums {
+    pub(crate) sketch: TupleSketch<DefaultUpdatePolicy<u64>>,
+    seed: u64,
+}
+
+/// A new sketch of 2^`lg_k` nominal entries, `lg_k` from 4 to 26, whose slots grow by a resize factor and which begins at a
+/// theta from 1 to `MAX_THETA`. Refused with `InvalidArgument` if a setting is out of range or the hash of the seed is 0,
+/// and with `OutOfMemory`.
+pub fn built(
+    alloc: Global,
+    lg_k: u8,
+    factor: ResizeFactor,
+    start: u64,
+    seed: u64,
+) -> Result<SeededSums, Error>
+    ensures made { IfOk result (λ t. IsNewSums lg_k start seed t) }
+    ensures refused { Refuses result (settings_refusal lg_k start seed) true }
+{
+    let sketch = TupleSketchBuilder::new(DefaultUpdatePolicy::<u64>::default())
+        .lg_k(lg_k)
+        .resize_factor(factor)
+        .starting_theta(start)
+        .seed(seed)
+        .build(alloc)?;
+    Ok(SeededSums { sketch, seed })
+}
+
+/// Adds a value to the sum of a hash, which is 0 at first. The status is `OK`, `POLICY` if the sum would be 2^64 or more, or
+/// `OUT_OF_MEMORY` for a new hash below theta.
+#[inline(always)]
+pub fn add_at_hash(sums: &mut SeededSums, hash: u64, value: u64) -> u32
+    ensures { AddsValue hash value sums.old result sums.new }
+{
+    match sums.sketch.update_hash(hash, value) {
+        Ok(()) => OK,
+        Err(error) => status_of(error.kind()),
+    }
+}
+
+/// Adds a value to the sum of a number, by the hash of its eight bytes, the lowest first. Refused as `add_at_hash` is.
+#[inline(always)]
+pub fn add_at_number(sums: &mut SeededSums, number: u64, value: u64) -> u32
+    ensures { AddsAtNumber number value sums.old result sums.new }
+{
+    let hash = hash_of_number(sums.seed, number);
+    add_at_hash(sums, hash, value)
+}
+
+/// Adds a value to the sum of bytes, by their hash. Refused as `add_at_hash` is.
+#[inline(always)]
+pub fn add_at_bytes(sums: &mut SeededSums, bytes: &[u8], value: u64) -> u32
+    ensures { AddsAtBytes bytes.now value sums.old result sums.new }
+{
+    let hash = hash_of_bytes(sums.seed, bytes);
+    add_at_hash(sums, hash, value)
+}
+
+impl HasState for SeededSums {
+    ghost shown = { sums_state };
+
+    fn state(&self) -> State {
+        State::of(
+            self.sketch.num_retained(),
+            self.sketch.theta64(),
+            self.sketch.is_empty(),
+        )
+    }
+}
+
+impl HasCompact for SeededSums {
+    type Compact = CompactSums;
+
+    ghost is_compact = { IsCompactFormOfSums };
+
+    ghost no_compact = { λ _. IsMemoryRefusal };
+
+    fn compact(&self) -> Result<CompactSums, u32> {
+        match self.sketch.compact(true) {
+            Ok(sketch) => Ok(CompactSums { sketch }),
+            Err(_) => Err(OUT_OF_MEMORY),
+        }
+    }
+}
+
+impl HasTotal for SeededSums {
+    ghost total_sum = { sums_total };
+
+    fn total(&self) -> Wide {
+        // By its contract there are fewer than 2^32 entries.
+        let _ = self.sketch.num_retained();
+        split(sum_of(self.sketch.iter()))
+    }
+}
+
+impl HasImage for SeededSums {
+    ghost is_image = { IsImageOfSums };
+
+    ghost no_image = { λ _. IsMemoryRefusal };
+
+    fn image(&self) -> Result<Vec<u8>, u32> {
+        self.compact()?.image()
+    }
+}
+
+impl CanCopy for SeededSums {
+    ghost is_copy = { IsSameSums };
+
+    fn copied(&self) -> Result<SeededSums, u32> {
+        match self.sketch.clone() {
+            Ok(sketch) => Ok(SeededSums {
+                sketch,
+                seed: self.seed,
+            }),
+            Err(_) => Err(OUT_OF_MEMORY),
+        }
+    }
+}
+
+impl CanTrim for SeededSums {
+    ghost trims = { TrimsSums };
+
+    fn trim(&mut self) -> u32 {
+        match self.sketch.trim() {
+            Ok(()) => OK,
+            Err(_) => OUT_OF_MEMORY,
+        }
+    }
+}
+
+impl CanReset for SeededSums {
+    ghost resets = { ResetsSums };
+
+    fn reset(&mut self) -> u32 {
+        self.sketch.reset();
+        OK
+    }
+}

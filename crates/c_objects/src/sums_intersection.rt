@@ -1,0 +1,87 @@
+//! Intersections of tuple sketches of sums.
+ghost use Rattle.std.specs.Prelude.{true, None, IfOk};
+ghost use Rattle.core_laws.specs.Refusal.{Refuses};
+ghost use Rattle.core_operators.specs.Intersection.{seed_refusal};
+ghost use Rattle.core_slots.specs.Entry.{tuple_key};
+ghost use Rattle.core_state.specs.View.{shows, sequence};
+ghost use Rattle.c_objects.specs.CompactSums.{OfSums, OfCompactSums, OfSumsImage};
+ghost use Rattle.c_objects.specs.SumsIntersection.{IsNewSumsIntersection, MeetsShownSums, IsSumsIntersectionResult, IsNoSumsResult};
+ghost use Rattle.c_objects.specs.declared.sums_intersection.SeededSumsIntersection.{SeededSumsIntersection};
+
+use crate::compact_sums::CompactSums;
+use crate::objects::{Accepts, AcceptsImages, FromImage, HasCompact};
+use crate::status::{INVALID_ARGUMENT, OK, OUT_OF_MEMORY, status_of};
+use crate::sums::SeededSums;
+use sketch_base::Error;
+use std::alloc::Global;
+use tuple_sketches::{DefaultUnionPolicy, TupleIntersection, TupleSketchView};
+
+/// An intersection of sketches of sums, and the seed of its sketches. The sums of one hash are added, as in a union.
+#[derive(Drop)]
+pub struct SeededSumsIntersection {
+    intersection: TupleIntersection<DefaultUnionPolicy<u64>>,
+    seed: u64,
+}
+
+/// A new intersection, without a value. Refused with `InvalidArgument` if the hash of the seed is 0, and with `OutOfMemory`.
+pub fn built(alloc: Global, seed: u64) -> Result<SeededSumsIntersection, Error>
+    ensures made { IfOk result (λ i. IsNewSumsIntersection seed i) }
+    ensures refused { Refuses result (seed_refusal seed) true }
+{
+    let policy = DefaultUnionPolicy::<u64>::default();
+    let intersection = TupleIntersection::with_seed(alloc, policy, seed)?;
+    Ok(SeededSumsIntersection { intersection, seed })
+}
+
+#[tactic(auto, unfolding(crate::specs::SumsIntersection::MeetsShownSums))]
+fn add(object: &mut SeededSumsIntersection, view: TupleSketchView<'_, u64>) -> u32
+    ensures { MeetsShownSums (shows tuple_key view.entry) (sequence view.entry) object.old result object.new }
+{
+    match object.intersection.update(view) {
+        Ok(()) => OK,
+        Err(error) => status_of(error.kind()),
+    }
+}
+
+impl Accepts<SeededSums> for SeededSumsIntersection {
+    ghost adds = { OfSums MeetsShownSums };
+
+    fn add(&mut self, sketch: &SeededSums) -> u32 {
+        add(self, sketch.sketch.as_view())
+    }
+}
+
+impl Accepts<CompactSums> for SeededSumsIntersection {
+    ghost adds = { OfCompactSums MeetsShownSums };
+
+    fn add(&mut self, sketch: &CompactSums) -> u32 {
+        add(self, sketch.sketch.as_view())
+    }
+}
+
+impl AcceptsImages for SeededSumsIntersection {
+    ghost adds_image = { OfSumsImage MeetsShownSums (λ i. i.seed) };
+
+    fn add_image(&mut self, alloc: Global, image: &[u8]) -> u32 {
+        match CompactSums::read(alloc, image, self.seed) {
+            Ok(sketch) => add(self, sketch.sketch.as_view()),
+            Err(status) => status,
+        }
+    }
+}
+
+impl HasCompact for SeededSumsIntersection {
+    type Compact = CompactSums;
+
+    ghost is_compact = { IsSumsIntersectionResult };
+
+    ghost no_compact = { IsNoSumsResult };
+
+    fn compact(&self) -> Result<CompactSums, u32> {
+        match self.intersection.to_sketch(true) {
+            Ok(Some(sketch)) => Ok(CompactSums { sketch }),
+            Ok(None) => Err(INVALID_ARGUMENT),
+            Err(_) => Err(OUT_OF_MEMORY),
+        }
+    }
+}

@@ -1,0 +1,157 @@
+//! Theta sketches that take updates.
+ghost use Rattle.std.specs.Prelude.{true, IfOk};
+ghost use Rattle.core_laws.specs.Refusal.{Refuses};
+ghost use Rattle.core_laws.specs.Settings.{settings_refusal};
+ghost use Rattle.c_objects.specs.Status.{IsMemoryRefusal};
+ghost use Rattle.c_objects.specs.Thetas.{IsNewSketch, IsSameSketch, UpdatesHash, UpdatesNumber, UpdatesBytes, UpdatesHashes, Trims, Resets, theta_state, IsImageOf, IsCompactForm};
+ghost use Rattle.c_objects.specs.declared.theta.SeededSketch.{SeededSketch};
+
+use crate::compact::CompactSketch;
+use crate::hashes::{hash_of_bytes, hash_of_number};
+use crate::objects::{CanCopy, CanReset, CanTrim, HasCompact, HasImage, HasState};
+use crate::state::State;
+use crate::status::{OK, OUT_OF_MEMORY};
+use sketch_base::Error;
+use std::alloc::Global;
+use theta_sketches::{ResizeFactor, ThetaSketch, ThetaSketchBuilder};
+
+/// A sketch that takes updates, and the seed of its hashes.
+#[derive(Drop)]
+pub struct SeededSketch {
+    pub(crate) sketch: ThetaSketch,
+    pub(crate) seed: u64,
+}
+
+/// A new sketch of 2^`lg_k` nominal entries, `lg_k` from 4 to 26, whose slots grow by a resize factor and which begins at a
+/// theta from 1 to `MAX_THETA`. Refused with `InvalidArgument` if a setting is out of range or the hash of the seed is 0,
+/// and with `OutOfMemory`.
+pub fn built(
+    alloc: Global,
+    lg_k: u8,
+    factor: ResizeFactor,
+    start: u64,
+    seed: u64,
+) -> Result<SeededSketch, Error>
+    ensures made { IfOk result (λ t. IsNewSketch lg_k start seed t) }
+    ensures refused { Refuses result (settings_refusal lg_k start seed) true }
+{
+    let sketch = ThetaSketchBuilder::default()
+        .lg_k(lg_k)
+        .resize_factor(factor)
+        .starting_theta(start)
+        .seed(seed)
+        .build(alloc)?;
+    Ok(SeededSketch { sketch, seed })
+}
+
+/// Updates a sketch with a hash of 63 bits. The status is `OK`, or `OUT_OF_MEMORY` for a new hash below theta.
+#[inline(always)]
+pub fn update_hash(theta: &mut SeededSketch, hash: u64) -> u32
+    ensures { UpdatesHash hash theta.old result theta.new }
+{
+    match theta.sketch.update_hash(hash) {
+        Ok(()) => OK,
+        Err(_) => OUT_OF_MEMORY,
+    }
+}
+
+/// Updates a sketch with a number, by the hash of its eight bytes, the lowest first. Refused as `update_hash` is.
+#[inline(always)]
+pub fn update_number(theta: &mut SeededSketch, number: u64) -> u32
+    ensures { UpdatesNumber number theta.old result theta.new }
+{
+    let hash = hash_of_number(theta.seed, number);
+    update_hash(theta, hash)
+}
+
+/// Updates a sketch with bytes, by their hash. Refused as `update_hash` is.
+#[inline(always)]
+pub fn update_bytes(theta: &mut SeededSketch, bytes: &[u8]) -> u32
+    ensures { UpdatesBytes bytes.now theta.old result theta.new }
+{
+    let hash = hash_of_bytes(theta.seed, bytes);
+    update_hash(theta, hash)
+}
+
+/// Updates a sketch with hashes in their order. The status is `OK`, or `OUT_OF_MEMORY` at a new hash below theta; then
+/// exactly the hashes before it have been inserted.
+#[inline(always)]
+pub fn update_hashes(theta: &mut SeededSketch, hashes: &[u64]) -> u32
+    ensures { UpdatesHashes hashes.now theta.old result theta.new }
+{
+    match theta.sketch.update_hashes(hashes) {
+        Ok(()) => OK,
+        Err(_) => OUT_OF_MEMORY,
+    }
+}
+
+impl HasState for SeededSketch {
+    ghost shown = { theta_state };
+
+    fn state(&self) -> State {
+        State::of(
+            self.sketch.num_retained(),
+            self.sketch.theta64(),
+            self.sketch.is_empty(),
+        )
+    }
+}
+
+impl HasCompact for SeededSketch {
+    type Compact = CompactSketch;
+
+    ghost is_compact = { IsCompactForm };
+
+    ghost no_compact = { λ _. IsMemoryRefusal };
+
+    fn compact(&self) -> Result<CompactSketch, u32> {
+        match self.sketch.compact(true) {
+            Ok(sketch) => Ok(CompactSketch { sketch }),
+            Err(_) => Err(OUT_OF_MEMORY),
+        }
+    }
+}
+
+impl HasImage for SeededSketch {
+    ghost is_image = { IsImageOf };
+
+    ghost no_image = { λ _. IsMemoryRefusal };
+
+    fn image(&self) -> Result<Vec<u8>, u32> {
+        self.compact()?.image()
+    }
+}
+
+impl CanCopy for SeededSketch {
+    ghost is_copy = { IsSameSketch };
+
+    fn copied(&self) -> Result<SeededSketch, u32> {
+        match self.sketch.clone() {
+            Ok(sketch) => Ok(SeededSketch {
+                sketch,
+                seed: self.seed,
+            }),
+            Err(_) => Err(OUT_OF_MEMORY),
+        }
+    }
+}
+
+impl CanTrim for SeededSketch {
+    ghost trims = { Trims };
+
+    fn trim(&mut self) -> u32 {
+        match self.sketch.trim() {
+            Ok(()) => OK,
+            Err(_) => OUT_OF_MEMORY,
+        }
+    }
+}
+
+impl CanReset for SeededSketch {
+    ghost resets = { Resets };
+
+    fn reset(&mut self) -> u32 {
+        self.sketch.reset();
+        OK
+    }
+}

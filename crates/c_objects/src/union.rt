@@ -1,0 +1,136 @@
+//! Unions of theta sketches.
+ghost use Rattle.std.specs.Prelude.{true, IfOk};
+ghost use Rattle.core_laws.specs.Refusal.{Refuses};
+ghost use Rattle.core_laws.specs.Settings.{settings_refusal};
+ghost use Rattle.core_laws.specs.declared.TheConstants.{MAX_THETA};
+ghost use Rattle.theta_sketches.specs.View.{view_shows, view_sequence};
+ghost use Rattle.c_objects.specs.Thetas.{OfSketch, OfCompact, OfImage};
+ghost use Rattle.c_objects.specs.Union.{IsNewUnion, AddsShown, AddsAll, AddsBatch, IsUnionResult, IsUnionImage, IsResultRefusal, ResetsUnion};
+ghost use Rattle.c_objects.specs.declared.union.SeededUnion.{SeededUnion};
+
+use crate::batch::SeededBatch;
+use crate::compact::CompactSketch;
+use crate::objects::{Accepts, AcceptsImages, CanReset, FromImage, HasCompact, HasImage};
+use crate::status::{OK, OUT_OF_MEMORY, status_of};
+use crate::theta::SeededSketch;
+use keys_sketches::views_of;
+use sketch_base::Error;
+use std::alloc::Global;
+use theta_sketches::{CompactThetaSketch, ThetaSketchView, ThetaUnion, ThetaUnionBuilder};
+
+/// A union, and the seed of its sketches.
+#[derive(Drop)]
+pub struct SeededUnion {
+    union: ThetaUnion,
+    seed: u64,
+}
+
+/// A new union of 2^`lg_k` nominal entries, `lg_k` from 4 to 26. Refused with `InvalidArgument` if `lg_k` is out of range or
+/// the hash of the seed is 0, and with `OutOfMemory`.
+pub fn built(alloc: Global, lg_k: u8, seed: u64) -> Result<SeededUnion, Error>
+    ensures made { IfOk result (λ u. IsNewUnion lg_k seed u) }
+    ensures refused { Refuses result (settings_refusal lg_k MAX_THETA seed) true }
+{
+    let union = ThetaUnionBuilder::default()
+        .lg_k(lg_k)
+        .seed(seed)
+        .build(alloc)?;
+    Ok(SeededUnion { union, seed })
+}
+
+fn add(union: &mut SeededUnion, view: ThetaSketchView<'_, Global>) -> u32
+    ensures { AddsShown (view_shows view.entry) (view_sequence view.entry) union.old result union.new }
+{
+    match union.union.update(view) {
+        Ok(()) => OK,
+        Err(error) => status_of(error.kind()),
+    }
+}
+
+impl Accepts<SeededSketch> for SeededUnion {
+    ghost adds = { OfSketch AddsShown };
+
+    fn add(&mut self, sketch: &SeededSketch) -> u32 {
+        add(self, sketch.sketch.as_view())
+    }
+}
+
+impl Accepts<CompactSketch> for SeededUnion {
+    ghost adds = { OfCompact AddsShown };
+
+    fn add(&mut self, sketch: &CompactSketch) -> u32 {
+        add(self, sketch.sketch.as_view())
+    }
+}
+
+impl AcceptsImages for SeededUnion {
+    ghost adds_image = { OfImage AddsShown (λ u. u.seed) };
+
+    fn add_image(&mut self, alloc: Global, image: &[u8]) -> u32 {
+        match CompactSketch::read(alloc, image, self.seed) {
+            Ok(sketch) => add(self, sketch.sketch.as_view()),
+            Err(status) => status,
+        }
+    }
+}
+
+/// Merges sketches into a union at once. The status is `OK`; or that of the refusal, `OUT_OF_MEMORY` also if memory for
+/// their views is refused, and then nothing has changed.
+fn add_all(union: &mut SeededUnion, alloc: Global, sketches: &[CompactThetaSketch]) -> u32
+    ensures { AddsAll sketches.now union.old result union.new }
+{
+    let views = match views_of(alloc, sketches) {
+        Ok(views) => views,
+        Err(_) => return OUT_OF_MEMORY,
+    };
+    match union.union.update_all(views.as_slice()) {
+        Ok(()) => OK,
+        Err(error) => status_of(error.kind()),
+    }
+}
+
+/// All sketches of a batch, at once.
+impl Accepts<SeededBatch> for SeededUnion {
+    ghost adds = { AddsBatch };
+
+    fn add(&mut self, batch: &SeededBatch) -> u32 {
+        add_all(self, *batch.sketches.allocator(), batch.sketches.as_slice())
+    }
+}
+
+impl HasCompact for SeededUnion {
+    type Compact = CompactSketch;
+
+    ghost is_compact = { IsUnionResult };
+
+    ghost no_compact = { IsResultRefusal };
+
+    fn compact(&self) -> Result<CompactSketch, u32> {
+        match self.union.to_sketch(true) {
+            Ok(sketch) => Ok(CompactSketch { sketch }),
+            Err(error) => Err(status_of(error.kind())),
+        }
+    }
+}
+
+impl HasImage for SeededUnion {
+    ghost is_image = { IsUnionImage };
+
+    ghost no_image = { IsResultRefusal };
+
+    fn image(&self) -> Result<Vec<u8>, u32> {
+        match self.union.to_sketch(true) {
+            Ok(sketch) => CompactSketch { sketch }.image(),
+            Err(error) => Err(status_of(error.kind())),
+        }
+    }
+}
+
+impl CanReset for SeededUnion {
+    ghost resets = { ResetsUnion };
+
+    fn reset(&mut self) -> u32 {
+        self.union.reset();
+        OK
+    }
+}

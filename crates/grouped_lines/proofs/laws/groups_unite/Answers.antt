@@ -1,5 +1,0 @@
-use Rattle.grouped_lines.proofs.PartsUnite.{groups_united}
-use Rattle.grouped_lines.proofs.laws.groups_unite.Goals as goal
-
-pub returns : goal.returns
-returns c = λ grouping sources texts out settled. groups_united c.one_reading.ensures c.read_again.ensures grouping settled sources texts out

@@ -1,9 +1,0 @@
-use Rattle.std.proofs.Common.{arith}
-use Rattle.std.specs.Io.Buffered.{reader_remaining}
-use Rattle.grouped_lines.proofs.WholeLines.{line_read}
-use Rattle.grouped_lines.proofs.reading.next_line.Goals as goal
-
-pub returns : goal.returns
-returns g c =
-    line_read (reader_remaining g.R.Read.remaining c.args.reader.now) (reader_remaining g.R.Read.remaining c.read_until.new.self) c.clear.new.self.items c.read_until.new.buf.items c.in_ok-count.count
-    c.clear.ensures.items c.in_ok-count.ensures.bytes c.in_ok-count.ensures.rest (omega (arith, c.read_until.new.buf.ok, c.clear.new.self.ok, c.in_ok-count.ensures.ok)) c.if-count-eq0.false

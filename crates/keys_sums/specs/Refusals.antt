@@ -1,0 +1,101 @@
+-- Why lines are not summed.
+use Rattle.std.specs.Prelude.{ℕ, zero, suc, ◌≡◌, ◌≢◌, ◌⊎◌, ◌+◌, ◌-◌, ◌^◌, ◌≤◌, min, ⊤, Bool, true, List, ◌∷◌, ◌++◌, length, Option, Some, None, Result, MatchResult}
+use Rattle.std.specs.IoError.{error_kind}
+use Rattle.std.specs.declared.io.ErrorKind.TheVariants.{Interrupted}
+use Rattle.sketch_base.specs.declared.error.ErrorKind.{ErrorKind}
+use Rattle.sketch_base.specs.declared.error.ErrorKind.TheVariants.{OutOfMemory, Policy}
+use Rattle.keys_lines.specs.Lines.{lines_of}
+use Rattle.keys_lines.specs.declared.key.Hashing.{Hashing}
+use Rattle.keys_sketches.specs.Refusals.{HasFault}
+use Rattle.keys_sums.specs.Amounts.{amount_in, added_by}
+use Rattle.keys_sums.specs.Sums.{sum_at}
+use Rattle.keys_sums.specs.declared.addends.Amount.{Amount}
+use Rattle.keys_sums.specs.declared.addends.Amount.TheVariants.{One}
+use Rattle.keys_sums.specs.declared.summing.Unsummed.{Unsummed}
+use Rattle.keys_sums.specs.declared.summing.Unsummed.TheVariants.{Refused, Failed, PastGreatest, NotANumber}
+
+-- lines are not added: memory ran out, or a sum would be 2^64 or more
+abbrev pub IsAddRefusal : ErrorKind → Type 0
+IsAddRefusal kind = (kind ≡ OutOfMemory) ⊎ (kind ≡ Policy)
+
+-- an error is the refusal, or that memory ran out, or that of a source or of a line, which are read only if nothing is refused
+abbrev pub IsUnsummed : Amount → Option ErrorKind → Unsummed → Type 0
+IsUnsummed amount refusal (Refused kind) = (refusal ≡ Some kind) ⊎ (kind ≡ OutOfMemory)
+IsUnsummed amount refusal (Failed error) = refusal ≡ None
+IsUnsummed amount refusal (PastGreatest line) = refusal ≡ None
+IsUnsummed amount refusal (NotANumber line) = (refusal ≡ None) × (amount ≢ One)
+
+-- a line is reported to have no number only if it has none, and its number is that behind this count of lines
+abbrev pub LacksNumber : Amount → (line : List ℕ) → (count : ℕ) → Unsummed → Type 0
+LacksNumber amount line count (NotANumber number) = (amount_in amount line ≡ None) × (number ≡ min (count + 1) (2 ^ 64 - 1))
+LacksNumber amount line count unsummed = ⊤
+
+-- a line adds no number
+abbrev pub HasNoNumber : Amount → (line : List ℕ) → Type 0
+HasNoNumber amount line = amount_in amount line ≡ None
+
+-- the count of lines after this many more, which stops at 2^64 - 1
+abbrev pub count_after : (count more : ℕ) → ℕ
+count_after count zero = count
+count_after count (suc more) = min (count_after count more + 1) (2 ^ 64 - 1)
+
+-- the line of this number, behind this count of lines, adds no number
+pub record HasNoNumberBehind (amount : Amount) (count number : ℕ) (lines : List (List ℕ)) : Type 0 where
+  pub before : List (List ℕ)
+  pub line : List ℕ
+  pub others : List (List ℕ)
+  pub parted : lines ≡ before ++ line ∷ others
+  pub none : HasNoNumber amount line
+  pub numbered : number ≡ count_after count (suc (length before))
+
+-- a line is reported to have no number only if it is one of these lines, behind this count of lines, and has none
+abbrev pub LacksNumberIn : Amount → (count : ℕ) → (lines : List (List ℕ)) → Unsummed → Type 0
+LacksNumberIn amount count lines (NotANumber number) = HasNoNumberBehind amount count number lines
+LacksNumberIn amount count lines unsummed = ⊤
+
+-- the line of this number adds no number; any number above 2^64 - 1 is reported as that
+pub record HasNoNumberAt (amount : Amount) (number : ℕ) (lines : List (List ℕ)) : Type 0 where
+  pub before : List (List ℕ)
+  pub line : List ℕ
+  pub others : List (List ℕ)
+  pub parted : lines ≡ before ++ line ∷ others
+  pub none : HasNoNumber amount line
+  pub numbered : number ≡ min (length before + 1) (2 ^ 64 - 1)
+
+-- a line is reported to have no number only if it is the line of its number in a text, and has none
+abbrev pub LacksNumberAt : Amount → (text : List ℕ) → Unsummed → Type 0
+LacksNumberAt amount text (NotANumber number) = HasNoNumberAt amount number (lines_of text)
+LacksNumberAt amount text unsummed = ⊤
+
+-- .. in one of these texts
+abbrev pub LacksNumberOf : Amount → (texts : List (List ℕ)) → Unsummed → Type 0
+LacksNumberOf amount texts (NotANumber number) = HasFault (λ text. HasNoNumberAt amount number (lines_of text)) texts
+LacksNumberOf amount texts unsummed = ⊤
+
+-- the sum of what the lines of some hash add is 2^64 or more
+abbrev pub IsPast : Hashing → (amount : List ℕ → ℕ) → (lines : List (List ℕ)) → Type 0
+IsPast hashing amount lines = (h : ℕ) × (2 ^ 64 ≤ sum_at hashing amount lines h)
+
+-- a sum is reported to be 2^64 or more only if the policy refused it
+abbrev pub IsByPolicy : ErrorKind → Unsummed → Type 0
+IsByPolicy kind (PastGreatest number) = kind ≡ Policy
+IsByPolicy kind unsummed = ⊤
+
+-- a sum is reported to be 2^64 or more only if a sum of these lines is
+abbrev pub IsPastIn : Hashing → Amount → (lines : List (List ℕ)) → Unsummed → Type 0
+IsPastIn hashing amount lines (PastGreatest number) = IsPast hashing (added_by amount) lines
+IsPastIn hashing amount lines unsummed = ⊤
+
+-- a text is reported to have failed only if it may fail
+abbrev pub FailsIf : (may_fail : Bool) → Unsummed → Type 0
+FailsIf may_fail (Failed error) = may_fail ≡ true
+FailsIf may_fail unsummed = ⊤
+
+-- a failed read was not just interrupted
+abbrev pub IsLastingFailure : Unsummed → Type 0
+IsLastingFailure (Failed error) = error_kind error ≢ Interrupted
+IsLastingFailure unsummed = ⊤
+
+-- an Ok comes only if nothing is refused
+abbrev pub RefusesSums : {T : Type 0} → Amount → Result T Unsummed → Option ErrorKind → Type 0
+RefusesSums amount r refusal = MatchResult r (λ _. refusal ≡ None) (IsUnsummed amount refusal)

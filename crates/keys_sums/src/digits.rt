@@ -1,0 +1,57 @@
+//! A whole number in decimal digits that is read byte by byte.
+ghost use Rattle.std.specs.Prelude.{◌≡◌, ◌<◌, ◌≤◌, ◌+◌, ◌*◌, ◌^◌, ◌++◌, ◌∷◌, ℕ, List, []};
+ghost use Rattle.keys_sums.specs.Amounts.{number_in, IsRead};
+ghost use Rattle.keys_sums.specs.declared.digits.Digits.TheVariants as digits;
+
+/// What the bytes read so far spell.
+#[derive(Clone, Copy, Debug, PartialEq, Eq)]
+pub(crate) enum Digits {
+    /// No byte is read yet.
+    Nothing,
+    /// Digits of this number.
+    Spells(u64),
+    /// No number below 2^64, whatever bytes follow.
+    Wrong,
+}
+
+/// The digits of a number and one digit more.
+fn with_digit(number: u64, digit: u64) -> Digits
+    requires small { digit < 10 }
+    ensures fits { number * 10 + digit < 2 ^ 64 → result ≡ digits.Spells (number * 10 + digit) }
+    ensures past { 2 ^ 64 ≤ number * 10 + digit → result ≡ digits.Wrong }
+{
+    let next = number as u128 * 10 + digit as u128;
+    if next <= u64::MAX as u128 {
+        Digits::Spells(next as u64)
+    } else {
+        Digits::Wrong
+    }
+}
+
+impl Digits {
+    /// The digits with one byte more.
+    pub(crate) fn with(self, byte: u8) -> Digits
+        ensures { (bytes : List ℕ) → IsRead bytes self → IsRead (bytes ++ byte ∷ []) result }
+    {
+        if !byte.is_ascii_digit() {
+            return Digits::Wrong;
+        }
+        let digit = (byte - b'0') as u64;
+        match self {
+            Digits::Nothing => Digits::Spells(digit),
+            Digits::Spells(number) => with_digit(number, digit),
+            Digits::Wrong => Digits::Wrong,
+        }
+    }
+
+    /// The number that the bytes spell, if they spell one below 2^64.
+    pub(crate) fn number(self) -> Option<u64>
+        ensures { (bytes : List ℕ) → IsRead bytes self → result ≡ number_in bytes }
+    {
+        match self {
+            Digits::Nothing => None,
+            Digits::Spells(number) => Some(number),
+            Digits::Wrong => None,
+        }
+    }
+}

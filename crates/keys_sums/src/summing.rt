@@ -1,0 +1,264 @@
+//! Sketches of sums of the lines of a reader.
+ghost use Rattle.std.specs.Prelude.{◌≡◌, ◌<◌, ◌++◌, ◌∷◌, ℕ, Bool, List, [], length, IfOk, IfErr, OnOk, IfSome, None, true};
+ghost use Rattle.sketch_base.specs.declared.error.ErrorKind.TheVariants.{Policy};
+ghost use Rattle.core_laws.specs.Refusal.{Refuses};
+ghost use Rattle.core_laws.specs.Settings.{settings_refusal};
+ghost use Rattle.core_laws.specs.declared.TheConstants.{MAX_THETA};
+ghost use Rattle.keys_lines.specs.Keys.{line_hash};
+ghost use Rattle.keys_lines.specs.Lines.{lines_after};
+ghost use Rattle.keys_lines.specs.declared.key.Hashing.{Hashing};
+ghost use Rattle.keys_sums.specs.Amounts.{IsOpenAddend};
+ghost use Rattle.keys_sums.specs.Sums.{HasSummed, sketch_of_sums};
+ghost use Rattle.keys_sums.specs.Reading.{HasTaken, AddsLines, AddsText, ReportsPast, ReportsPastText};
+ghost use Rattle.keys_sums.specs.Refusals.{FailsIf, IsAddRefusal, IsByPolicy, IsLastingFailure, IsPast, IsUnsummed, LacksNumber, LacksNumberAt, LacksNumberIn, RefusesSums};
+ghost use Rattle.keys_sums.specs.declared.addends.Amount.{Amount};
+
+use crate::addends::{Amount, OpenAddend};
+use keys_lines::{Hashing, cut_line};
+use keys_sketches::TextReader;
+use sketch_base::{Error, ErrorKind};
+use std::alloc::{AllocError, Allocator, Global};
+use std::io;
+use tuple_sketches::{CompactTupleSketch, DefaultUpdatePolicy, TupleSketch, TupleSketchBuilder};
+
+/// A tuple sketch whose summaries are sums of 64 bits.
+pub type SumSketch<A = Global> = TupleSketch<DefaultUpdatePolicy<u64>, A>;
+
+/// Why lines were not summed.
+#[derive(Debug, Drop)]
+pub enum Unsummed {
+    /// Memory was refused (`OutOfMemory`), or an `lg_k` isn't from 4 to 26 or the seed hash is 0 (`InvalidArgument`).
+    Refused(Error),
+    /// A source failed, or couldn't be opened.
+    Failed(io::Error),
+    /// The sum of a key would be 2^64 or more with the line of this number, from 1, in its source.
+    PastGreatest(u64),
+    /// The line of this number, from 1, in its source doesn't add a number: its part is no whole number below 2^64.
+    NotANumber(u64),
+}
+
+impl From<Error> for Unsummed {
+    ghost use Rattle.keys_sums.specs.declared.summing.Unsummed.TheVariants.{Refused};
+
+    ghost from_gives = { λ e unsummed. unsummed ≡ Refused e };
+
+    fn from(e: Error) -> Unsummed {
+        Unsummed::Refused(e)
+    }
+}
+
+impl From<AllocError> for Unsummed {
+    ghost use Rattle.sketch_base.specs.declared.error.ErrorKind.TheVariants.{OutOfMemory};
+    ghost use Rattle.keys_sums.specs.declared.summing.Unsummed.TheVariants.{Refused};
+
+    ghost from_gives = { λ _ unsummed. unsummed ≡ Refused OutOfMemory };
+
+    fn from(e: AllocError) -> Unsummed {
+        Unsummed::Refused(Error::from(e))
+    }
+}
+
+/// A new sketch of 2^`lg_k` nominal entries, under this seed. Refused with `InvalidArgument` for an `lg_k` that isn't
+/// from 4 to 26 or a seed whose seed hash is 0, and with `OutOfMemory`.
+pub fn new_sketch<A: Allocator + Drop>(alloc: A, seed: u64, lg_k: u8) -> Result<SumSketch<A>, Error>
+    ensures new { (hashing : Hashing) (amount : List ℕ → ℕ)
+        → hashing.seed ≡ seed
+        → IfOk result (λ s. HasSummed hashing amount lg_k [] s.state) }
+    ensures refused { Refuses result (settings_refusal lg_k MAX_THETA seed) true }
+{
+    TupleSketchBuilder::new(DefaultUpdatePolicy::<u64>::default())
+        .lg_k(lg_k)
+        .seed(seed)
+        .build(alloc)
+}
+
+/// Adds to the sum of a hash. Refused with `OutOfMemory`, and with `Policy` only if a sum would be 2^64 or more.
+fn add_value<A: Allocator + Clone>(
+    sketch: &mut SumSketch<A>,
+    hash: u64,
+    value: u64,
+) -> Result<(), Error>
+    ensures summed { (hashing : Hashing) (amount : List ℕ → ℕ) (lg_k : ℕ) (lines : List (List ℕ)) (line : List ℕ)
+        → hash ≡ line_hash hashing line
+        → amount line ≡ value
+        → HasSummed hashing amount lg_k lines sketch.old.state
+        → OnOk result (HasSummed hashing amount lg_k (lines ++ line ∷ []) sketch.new.state) }
+    ensures past { (hashing : Hashing) (amount : List ℕ → ℕ) (lg_k : ℕ) (lines : List (List ℕ)) (line : List ℕ)
+        → hash ≡ line_hash hashing line
+        → amount line ≡ value
+        → HasSummed hashing amount lg_k lines sketch.old.state
+        → IfErr result (λ e. e ≡ Policy → IsPast hashing amount (lines ++ line ∷ [])) }
+    ensures refused { IfErr result IsAddRefusal }
+{
+    sketch.update_hash(hash, value)
+}
+
+/// Why the line behind `count` others of its source was not added.
+fn not_added(error: Error, count: u64) -> Unsummed
+    requires { IsAddRefusal error }
+    ensures unsummed { (amount : Amount) → IsUnsummed amount None result }
+    ensures number { (amount : Amount) (line : List ℕ) → LacksNumber amount line count result }
+    ensures policy { IsByPolicy error result }
+    ensures retried { IsLastingFailure result }
+    ensures fallible { (may_fail : Bool) → FailsIf may_fail result }
+{
+    if error.kind() == ErrorKind::Policy {
+        Unsummed::PastGreatest(count.saturating_add(1))
+    } else {
+        Unsummed::Refused(error)
+    }
+}
+
+/// Adds what a line behind `count` others of its source adds. It is reported to have no number only if it has none.
+fn add_line<A: Allocator + Clone>(
+    sketch: &mut SumSketch<A>,
+    amount: Amount,
+    last: &OpenAddend,
+    count: u64,
+) -> Result<(), Unsummed>
+    ensures added { (hashing : Hashing) (line : List ℕ)
+        → IsOpenAddend hashing amount line last.now
+        → AddsLines hashing amount (line ∷ []) sketch.old.state result sketch.new.state }
+    ensures number { (hashing : Hashing) (line : List ℕ)
+        → IsOpenAddend hashing amount line last.now
+        → IfErr result (LacksNumber amount line count) }
+    ensures past { (hashing : Hashing) (line : List ℕ)
+        → IsOpenAddend hashing amount line last.now
+        → ReportsPast hashing amount (line ∷ []) sketch.old.state result }
+    ensures refused { RefusesSums amount result None }
+    ensures retried { IfErr result IsLastingFailure }
+    ensures fallible { (may_fail : Bool) → IfErr result (FailsIf may_fail) }
+{
+    let Some(value) = last.value(amount) else {
+        return Err(Unsummed::NotANumber(count.saturating_add(1)));
+    };
+    match add_value(sketch, last.hash(), value) {
+        Ok(()) => Ok(()),
+        Err(error) => Err(not_added(error, count)),
+    }
+}
+
+/// Adds each line that ends in a block, which continues an open line behind `count` lines. The open line is then the text
+/// behind the block's last LF. Returns how many lines of the text have ended so far.
+fn take_block<A: Allocator + Clone>(
+    sketch: &mut SumSketch<A>,
+    hashing: Hashing,
+    amount: Amount,
+    last: &mut OpenAddend,
+    count: u64,
+    block: &[u8],
+) -> Result<u64, Unsummed>
+    ensures taken { (front : List ℕ)
+        → IsOpenAddend hashing amount front last.old
+        → IfOk result (HasTaken hashing amount front block.now sketch.old.state sketch.new.state last.new count) }
+    ensures numbered { (front more : List ℕ)
+        → IsOpenAddend hashing amount front last.old
+        → IfErr result (LacksNumberIn amount count (lines_after front (block.now ++ more))) }
+    ensures past { (front more : List ℕ)
+        → IsOpenAddend hashing amount front last.old
+        → ReportsPast hashing amount (lines_after front (block.now ++ more)) sketch.old.state result }
+    ensures refused { RefusesSums amount result None }
+    ensures retried { IfErr result IsLastingFailure }
+    ensures fallible { (may_fail : Bool) → IfErr result (FailsIf may_fail) }
+{
+    let mut rest = block;
+    let mut count = count;
+    'take_each: while let Some((piece, others)) = cut_line(rest) {
+        last.extend(amount, piece);
+        add_line(sketch, amount, last, count)?;
+        *last = OpenAddend::new(hashing);
+        count = count.saturating_add(1);
+        rest = others;
+    }
+    last.extend(amount, rest);
+    Ok(count)
+}
+
+/// Adds a last line that no LF ends, if it has a byte; `count` lines are before it.
+fn take_last<A: Allocator + Clone>(
+    sketch: &mut SumSketch<A>,
+    amount: Amount,
+    last: &OpenAddend,
+    count: u64,
+) -> Result<(), Unsummed>
+    ensures taken { (hashing : Hashing) (front : List ℕ)
+        → IsOpenAddend hashing amount front last.now
+        → AddsLines hashing amount (lines_after front []) sketch.old.state result sketch.new.state }
+    ensures numbered { (hashing : Hashing) (front : List ℕ)
+        → IsOpenAddend hashing amount front last.now
+        → IfErr result (LacksNumberIn amount count (lines_after front [])) }
+    ensures past { (hashing : Hashing) (front : List ℕ)
+        → IsOpenAddend hashing amount front last.now
+        → ReportsPast hashing amount (lines_after front []) sketch.old.state result }
+    ensures refused { RefusesSums amount result None }
+    ensures retried { IfErr result IsLastingFailure }
+    ensures fallible { (may_fail : Bool) → IfErr result (FailsIf may_fail) }
+{
+    if !last.is_begun() {
+        return Ok(());
+    }
+    add_line(sketch, amount, last, count)
+}
+
+/// Adds what each line that a reader has left adds, block by block, to the sum at the line's key. The seed of `hashing`
+/// should be the sketch's, which is not checked. An interrupted read is repeated.
+///
+/// Refused only with `OutOfMemory`. A line that would make a sum 2^64 or more, or that adds no number, is an error that
+/// has its number. A line is reported to add no number only if the line of its number adds none, and a sum to be 2^64 or
+/// more only if one of all lines is. If the reader fails, its error is returned: only if its reads may fail, so never for a
+/// text in memory. After an error some first part of the lines is added; no clause says so.
+///
+/// `block` has at least one byte, and its length is the most that one read gets. Its old contents are not used.
+pub fn add_lines<A: Allocator + Clone, R: TextReader>(
+    sketch: &mut SumSketch<A>,
+    hashing: Hashing,
+    amount: Amount,
+    reader: &mut R,
+    block: &mut [u8],
+) -> Result<(), Unsummed>
+    requires room { 0 < length block.old }
+    ensures added { AddsText hashing amount (R.remaining reader.old) sketch.old.state result sketch.new.state }
+    ensures numbered { IfSome (R.remaining reader.old) (λ text. IfErr result (LacksNumberAt amount text)) }
+    ensures past { ReportsPastText hashing amount (R.remaining reader.old) sketch.old.state result }
+    ensures refused { RefusesSums amount result None }
+    ensures retried { IfErr result IsLastingFailure }
+    ensures fallible { IfErr result (FailsIf R.may_fail) }
+{
+    let mut last = OpenAddend::new(hashing);
+    let mut count = 0u64;
+    for _ in 0..u64::MAX {
+        match reader.read(block) {
+            Ok(0) => {
+                take_last(sketch, amount, &last, count)?;
+                return Ok(());
+            }
+            Ok(length) => {
+                let bytes = &block[..length];
+                count = take_block(sketch, hashing, amount, &mut last, count, bytes)?;
+            }
+            Err(error) => {
+                if error.kind() != io::ErrorKind::Interrupted {
+                    if R::may_fail() {
+                        return Err(Unsummed::Failed(error));
+                    }
+                    return Err(Unsummed::Refused(Error::from(AllocError)));
+                }
+            }
+        }
+    }
+    Err(Unsummed::Refused(Error::from(AllocError)))
+}
+
+/// Trims the sketch, which stays trimmed, and returns its compact form, ordered. Refused only with `OutOfMemory`; then
+/// the sketch may be trimmed already.
+pub fn finished<A: Allocator + Clone>(
+    sketch: &mut SumSketch<A>,
+) -> Result<CompactTupleSketch<u64, A>, Error>
+    ensures sketch { (hashing : Hashing) (amount : List ℕ → ℕ) (lg_k : ℕ) (lines : List (List ℕ))
+        → HasSummed hashing amount lg_k lines sketch.old.state
+        → IfOk result (λ s. s ≡ sketch_of_sums hashing amount lg_k lines) }
+    ensures refused { Refuses result None true }
+{
+    sketch.trim()?;
+    sketch.compact(true)
+}

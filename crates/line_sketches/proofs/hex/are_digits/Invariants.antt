@@ -1,7 +1,0 @@
-use Rattle.std.proofs.Common.{◌≡◌, drop}
-use Rattle.line_sketches.specs.Hex.{are_digits}
-use Rattle.line_sketches.proofs.hex.are_digits.Given as goal
-
--- the remaining letters are digits exactly if all are
-abbrev pub invariant-test_each : goal.invariant-test_each
-invariant-test_each l = are_digits (drop l.letter-index l.letters) ≡ are_digits l.letters

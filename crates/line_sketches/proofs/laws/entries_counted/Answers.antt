@@ -1,5 +1,0 @@
-use Rattle.line_sketches.proofs.Preambles.{read_facts}
-use Rattle.line_sketches.proofs.laws.entries_counted.Goals as goal
-
-pub returns : goal.returns
-returns c = λ bytes h s reads. (read_facts bytes h s reads).counted

@@ -1,5 +1,0 @@
-use Rattle.line_sketches.proofs.Shards.{united_texts}
-use Rattle.line_sketches.proofs.laws.shards_unite.Goals as goal
-
-pub returns : goal.returns
-returns c = united_texts

@@ -1,5 +1,0 @@
-use Rattle.std.proofs.Common.{[], refl}
-use Rattle.line_sketches.proofs.pieces.OpenText.new.Goals as goal
-
-pub returns : goal.returns
-returns g = (refl, λ start. record { front = []; open_line = g.new.ensures; inserted = λ more. refl })

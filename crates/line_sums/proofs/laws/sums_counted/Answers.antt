@@ -1,5 +1,0 @@
-use Rattle.line_sums.proofs.SumsPreambles.{sums_facts}
-use Rattle.line_sums.proofs.laws.sums_counted.Goals as goal
-
-pub returns : goal.returns
-returns c = λ bytes h s reads. (sums_facts bytes h s reads).counted

@@ -1,5 +1,0 @@
-use Rattle.reports.proofs.PlainNames.{escaped_printed}
-use Rattle.reports.proofs.laws.escaped_names_stay_on_their_line.Goals as goal
-
-pub returns : goal.returns
-returns c = escaped_printed
