@@ -198,12 +198,11 @@ kc_status kc_batch_add_compact(kc_batch *batch, const kc_compact *sketch);
 kc_status kc_batch_add_image(kc_batch *batch, const void *image, size_t count);
 /* Takes all sketches out of a batch. Refused with KC_INVALID_ARGUMENT if the handle has no batch. */
 kc_status kc_batch_reset(kc_batch *batch);
-/* Merges all sketches of a batch into a union, which then has the value of one kc_union_add after another. For many
- * sketches with different hashes it takes a fraction of the time. The batch doesn't change. Empty sketches change
- * nothing, and their seeds are not checked. Refused with KC_INVALID_ARGUMENT if a handle has no object or a sketch is
- * of another seed, and with KC_FAILED if the union has failed, whatever the sketches; then none is merged and nothing
- * has changed. Refused with KC_OUT_OF_MEMORY: if memory runs out in the merge, the union has failed until it is reset;
- * if it runs out before, none is merged and nothing has changed. */
+/* Merges all sketches of a batch into a union, which then has the value of one kc_union_add after another. The batch
+ * doesn't change. Empty sketches change nothing, and their seeds are not checked. Refused with KC_INVALID_ARGUMENT if a
+ * handle has no object or a sketch is of another seed, and with KC_FAILED if the union has failed, whatever the
+ * sketches; then none is merged and nothing has changed. Refused with KC_OUT_OF_MEMORY: if memory runs out in the
+ * merge, the union has failed until it is reset; if it runs out before, none is merged and nothing has changed. */
 kc_status kc_union_add_batch(kc_union *u, const kc_batch *batch);
 
 /* ---- Intersections and differences ---- */

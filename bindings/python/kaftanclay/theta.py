@@ -152,7 +152,7 @@ class ThetaUnion(Merge, _native.Union):
     """A union of any number of theta sketches, in any order.
 
     It retains at most 2^lg_k hashes (lg_k from 4 to 26), the least of all that its sketches retain below their least theta.
-    Pass `update` a list of sketches or images to merge them together, which takes a fraction of the time of one by one.
+    Pass `update` a list of sketches or images to merge them together.
     If no lg_k is passed it is 12, and `update` warns (SketchWarning) of a sketch that retains more, unless that has an `lg_k` of 12
     itself. After an OutOfMemoryError of `update` it may have failed: it then raises FailedError until it is reset.
 

@@ -321,7 +321,7 @@ static PyObject *union_reset(PyObject *self, PyObject *unused) {
            "have been merged." more), \
     {"_result", merge_result, METH_NOARGS, "The image and the state of its value."}
 #define SUMS_TEXT " PolicyError if the sum of a key would be 2^64 or more."
-#define MANY_TEXT " Many sketches together take a fraction of the time of one `update` each."
+#define MANY_TEXT ""
 #define UNION_TEXT " A union that has failed raises FailedError.\n\n" \
     "A union that was made without lg_k warns (SketchWarning), once, if a sketch of a greater or an unknown lg_k retains more\n" \
     "hashes than it keeps."

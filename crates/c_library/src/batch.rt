@@ -69,9 +69,8 @@ pub extern "C" fn kcp_batch_reset(batch: &mut BatchHandle) -> u32
     batch.owned().reset()
 }
 
-/// Merges all sketches of a batch into a union, which then has the value of one `kcp_union_add` after another. For many
-/// sketches with different hashes it takes a fraction of the time. The batch doesn't change. Empty sketches change nothing,
-/// and their seeds are not checked.
+/// Merges all sketches of a batch into a union, which then has the value of one `kcp_union_add` after another. The batch
+/// doesn't change. Empty sketches change nothing, and their seeds are not checked.
 ///
 /// Refused with `INVALID_ARGUMENT` if a handle has no object or a sketch is of another seed, and with `FAILED` if the union has
 /// failed, whatever the sketches; then none is merged and nothing has changed. Refused with `OUT_OF_MEMORY`: if memory runs
