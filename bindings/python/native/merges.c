@@ -78,7 +78,7 @@ static int add_image(Object *o, const char *image, Py_ssize_t count) {
 }
 
 /* Sketches that wait to be merged into a union of theta sketches together. */
-enum { SKETCHES_AT_ONCE = 4096, BYTES_AT_ONCE = 1 << 23 };
+enum { SKETCHES_AT_ONCE = 4096, BYTES_AT_ONCE = 1 << 18 };
 typedef struct {
     kc_batch batch;
     size_t sketches, bytes; /* how many wait, and about how many bytes they have */
