@@ -1,5 +1,5 @@
 //! Laws of the definitions alone.
-ghost use Rattle.std.specs.Prelude.{◌≡◌, ◌≢◌, ℕ, ◌≤◌, ◌^◌, List, None, false};
+ghost use Rattle.std.specs.Prelude.{◌≡◌, ◌≢◌, ℕ, ◌≤◌, ◌^◌, List, None, if◌then◌else◌};
 ghost use Rattle.core_laws.specs.Cuts.{cut};
 ghost use Rattle.core_laws.specs.Entries.{hash_key, is_carried};
 ghost use Rattle.core_laws.specs.Folds.{fold_key, folded};
@@ -14,7 +14,7 @@ ghost use Rattle.core_streams.specs.HashSets.{set_of};
 ghost use Rattle.core_streams.specs.WholeMaps.{IsPart, IsSketchOfMap};
 
 /// The value of a sketch is a part of what it was given, and a part for some k is one for fewer. One that isn't Empty
-/// and has no more than k entries has the k of least key below the start.
+/// and has no more than k entries has the k entries of least key below the start.
 pub fn parts_of_whole_maps<X>()
     ensures sketch { (key : X → ℕ) (lg_k start seed : ℕ) (s : Updatable X) (whole : List X) → IsSketchOfMap key lg_k start seed s whole →
         IsPart key (2 ^ lg_k) start (sketch_value s) whole }
@@ -31,8 +31,9 @@ pub fn insertions_in_folds<X>()
         unmarked_table new ≡ after_insertion (fold_key key) h (folded key h step) (unmarked_table old) }
 {}
 
-/// The set of a stream of hashes ascends, and no hash of it is 0 or `MAX_THETA` or more.
+/// The set of a stream of hashes ascends, and has exactly the stream's hashes that aren't 0, nor `MAX_THETA` or more.
 pub fn sets_of_streams()
     ensures ascending { (hashes : List ℕ) → IsAscending hash_key (set_of hashes) }
-    ensures carried { (hashes : List ℕ) (h : ℕ) → is_carried h ≡ false → entry_at hash_key (set_of hashes) h ≡ None }
+    ensures found { (hashes : List ℕ) (h : ℕ) →
+        entry_at hash_key (set_of hashes) h ≡ if is_carried h then entry_at hash_key hashes h else None }
 {}
