@@ -39,3 +39,7 @@ unrefused (Err e) refusal takes_memory is = tt
 pub if_both : {T E V : Type 0} (r : Result T E) (P Q : T → Type 0) → ((x : T) → P x → V → Q x) → IfOk r P → OnOk r V → IfOk r Q
 if_both (Ok x) P Q f p v = f x p v
 if_both (Err e) P Q f p v = p
+
+pub on_each_err : {T E Q : Type 0} (r : Result T E) (P : E → Type 0) → ((e : E) → P e → Q) → IfErr r P → OnErr r Q
+on_each_err (Ok x) P f p = p
+on_each_err (Err e) P f p = f e p

@@ -1,9 +1,10 @@
 -- Sketches and unions against the whole map of what they were given.
 use Rattle.std.proofs.Common.{◌≡◌, ℕ, ◌<◌, ◌≤◌, ◌≢◌, ◌^◌, Bool, true, false, cond, eqb, List, [], ◌∷◌, Some, None, inl, inr, refl, sym, ap, ◌∙◌, subst, arith}
-use Rattle.std.specs.Prelude.{◌&&◌, nat_le}
+use Rattle.std.specs.Prelude.{◌&&◌, nat_le, MatchOption}
 use Rattle.std.specs.List.{AllByRecursion}
 use Rattle.std.specs.Option.{option_map_or}
 use Rattle.std.proofs.lemmas.Bool.Decides.{nat_tests}
+use Rattle.sketch_base.specs.declared.error.ErrorKind.{ErrorKind}
 use Rattle.sketch_base.specs.declared.error.ErrorKind.TheVariants.{InvalidArgument}
 use Rattle.core_laws.specs.declared.TheConstants.{MAX_THETA}
 use Rattle.core_laws.specs.Cuts.{Retained, cut, none_below}
@@ -17,10 +18,10 @@ use Rattle.core_laws.specs.Maps.{IsAscending, below, entry_at, with_entry}
 use Rattle.core_laws.specs.Operators.{joined, joined_all, unite, meet}
 use Rattle.core_laws.specs.Samples.{IsAllBelow, IsSample, IsLawfulValue, AreSamples, AreLawful}
 use Rattle.core_laws.specs.Settings.{settings_refusal}
-use Rattle.core_laws.specs.Shown.{shown_value}
+use Rattle.core_laws.specs.Shown.{Shown, shown_value}
 use Rattle.core_laws.specs.Step.{Step}
 use Rattle.core_laws.specs.Values.{Sketch, Empty, NonEmpty, cut_value}
-use Rattle.core_operators.specs.Union.{Union, empty_union, union_value, lowered}
+use Rattle.core_operators.specs.Union.{Union, empty_union, union_value, lowered, update_refusal, update_all_refusal, IsBroken, IsAllBroken, IsUpdateError, IsUpdateAllError}
 use Rattle.core_state.specs.Updatable.{Updatable, sketch_value}
 use Rattle.core_state.specs.View.{shows, sequence}
 use Rattle.core_state.specs.declared.view.SketchView.{SketchView}
@@ -332,3 +333,26 @@ module _ {X P : Type 0} (key : X → ℕ) (merges : X → X → X) (keeps : Keep
   sample-given old new value w more united is sample =
       let none : joined key merges [] w ≡ w = joined-nil key merges keeps w is.ascending in
       rw (united, ← none) (union_samples key merges keeps (2 ^ old.lg_k) old.start (union_value key old ∷ value ∷ []) (w ∷ more ∷ []) (is, (sample, tt)))
+
+module _ {X P : Type 0} (key : X → ℕ) where
+  -- a failed union has its settings, and so has one that is unchanged
+  failed-settings : (old new : Union X P) → new ≡ record old { failed = true; content = new.content } → (new.lg_k ≡ old.lg_k) × (new.start ≡ old.start)
+  failed-settings old new made = (ap (λ u. u.lg_k) made, ap (λ u. u.start) made)
+
+  same-settings : (old new : Union X P) → new ≡ old → (new.lg_k ≡ old.lg_k) × (new.start ≡ old.start)
+  same-settings old new same = (ap (λ u. u.lg_k) same, ap (λ u. u.start) same)
+
+  -- so after every error
+  pub update-settings : (refuses : X → X → Bool) (old new : Union X P) (s : Shown) (listing : List X) (e : ErrorKind) → IsUpdateError key refuses old new s listing e → (new.lg_k ≡ old.lg_k) × (new.start ≡ old.start)
+  update-settings refuses old new s listing e =
+      elim (update_refusal old s) as (λ o. MatchOption o (IsBroken key refuses old new s listing e) (λ kind. (e ≡ kind) × (new ≡ old)) → (new.lg_k ≡ old.lg_k) × (new.start ≡ old.start)) [
+        | None ↦ λ broken. failed-settings old new broken.made_with
+        | Some kind ↦ λ refused. same-settings old new refused.1
+      ]
+
+  pub update_all-settings : {V : Type 0} (merges : X → X → X) (refuses : X → X → Bool) (old new : Union X P) (shown : V → Shown) (listing : V → List X) (views : List V) (e : ErrorKind) → IsUpdateAllError key merges refuses old new shown listing views e → (new.lg_k ≡ old.lg_k) × (new.start ≡ old.start)
+  update_all-settings merges refuses old new shown listing views e =
+      elim (update_all_refusal old shown views) as (λ o. MatchOption o (IsAllBroken key merges refuses old new shown listing views e) (λ kind. (e ≡ kind) × (new ≡ old)) → (new.lg_k ≡ old.lg_k) × (new.start ≡ old.start)) [
+        | None ↦ λ broken. failed-settings old new broken.made_with
+        | Some kind ↦ λ refused. same-settings old new refused.1
+      ]

@@ -240,9 +240,6 @@ module _ {P : Type 0} where
   pub union-made : (lg_k k start from hash : ℕ) (policy : P) (u : Union ℕ P) → k ≤ 2 ^ lg_k → start ≤ from → u ≡ empty_union lg_k from hash policy → IsUnionOf lg_k k start u []
   union-made lg_k k start from hash policy u enough starts made = record { of_map = rw none-set_of (new-union hash_key lg_k k start from hash policy u enough starts made); none = λ _. refl }
 
-  pub union-reset : (lg_k k start : ℕ) (old new : Union ℕ P) (hashes : List ℕ) → new ≡ empty_union old.lg_k old.start old.seed_hash old.policy → IsUnionOf lg_k k start old hashes → IsUnionOf lg_k k start new []
-  union-reset lg_k k start old new hashes after is = union-made lg_k k start old.start old.seed_hash old.policy new is.of_map.enough is.of_map.starts (after ∙ ap (λ (n : ℕ). empty_union n old.start old.seed_hash old.policy) is.of_map.nominal)
-
   -- a union that was given one part more
   pub union-given : (lg_k k start : ℕ) (old new : Union ℕ P) (s : Shown) (listing hashes more : List ℕ) → (s.empty ≡ true → new ≡ old) → UnitesHashes old new s listing → (s.empty ≡ false → new ≡ record old { empty = false; content = new.content }) →
       IsUnionOf lg_k k start old hashes → IsPartOf k start (shown_value hash_key s listing) more → IsUnionOf lg_k k start new (hashes ++ more)

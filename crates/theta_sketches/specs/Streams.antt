@@ -62,7 +62,7 @@ pub record IsSampleOf (value : Sketch ℕ) (hashes : List ℕ) : Type 0 where
   pub sample : IsSample hash_key value (set_of hashes)
 
 -- a value is a part of a union's stream: it samples its own stream, and its theta is lawful for k and the start, so it
--- has the k least hashes below the start, if there are so many. Only a stream without hashes has the value Empty
+-- has the k least hashes below the start, or all of them if there are fewer. A part that is Empty was given no hashes
 pub record IsPartOf (k start : ℕ) (value : Sketch ℕ) (hashes : List ℕ) : Type 0 where
   pub part : IsPart hash_key k start value (set_of hashes)
   pub none : value ≡ Empty → hashes ≡ []

@@ -104,6 +104,7 @@ impl<A: Allocator + Clone + Drop> CompactThetaSketch<A> {
         ensures read_back { IfOk result (λ v. (s : Compact ℕ) → Reads v.items self.now.seed_hash s → s ≡ self.now) }
         ensures refused { Refuses result None true }
     {
+        // Called for their clauses alone: the sketch keeps the laws of compact sketches, and its seed hash has 16 bits.
         let _ = (self.num_retained(), self.seed_hash());
         let alloc = self.state().allocator().clone()?;
         write_image(alloc, self.state(), Family::THETA, 0)

@@ -5,8 +5,9 @@
 //! theta and drops the greatest hashes; the estimate follows from the number of retained hashes and theta. In
 //! contracts, the value of a sketch is Empty, or the retained hashes as a map, ascending, with the theta. The contracts
 //! of most calls are stated on that value. Their clauses `given`, `part` and `sample` say instead which stream of hashes
-//! an object was given, and nothing else; those of results say what they have of it (`kmin`, `least`, `below`). A program
-//! proves its own results from these clauses alone (docs/use/PROVE-YOUR-PROGRAM.md, `crates/example_readme`).
+//! an object was given, and that it was given nothing else; those of results say what they have of it (`kmin`, `least`,
+//! `below`). A program proves its own results from these clauses alone (docs/use/PROVE-YOUR-PROGRAM.md,
+//! `crates/example_readme`).
 //!
 //! The visitors of two days: of either day, of both days, of the first day alone. The last lines write an image of the
 //! first result and read it.

@@ -63,10 +63,12 @@ impl<A: Allocator + Drop> ThetaUnion<A> {
     }
 
     /// Makes it empty again, and ends a failure. It allocates nothing.
+    ///
+    /// `given` needs no fact of what the union was given, so it is there after a failure too: no call but `lower_lg_k`
+    /// changes a union's nominal entries, and none its start.
     pub fn reset(&mut self)
         ensures after { self.new ≡ empty_union self.old.lg_k self.old.start self.old.seed_hash self.old.policy }
-        ensures given { (lg_k k start : ℕ) (hashes : List ℕ) → IsUnionOf lg_k k start self.old hashes →
-            IsUnionOf lg_k k start self.new [] }
+        ensures given { (k start : ℕ) → k ≤ 2 ^ self.old.lg_k → start ≤ self.old.start → IsUnionOf self.old.lg_k k start self.new [] }
         ensures sampled { IsUnionOfSamples self.new [] }
     {
         self.state.reset();
@@ -89,6 +91,7 @@ impl<A: Allocator + Clone> ThetaUnion<A> {
         ensures sampled { OnOk result ((hashes more : List ℕ) → IsUnionOfSamples self.old hashes → IsSampleOf (view_value sketch.entry) more →
             IsUnionOfSamples self.new (hashes ++ more)) }
         ensures err_given { IfErr result (λ e. e ≢ OutOfMemory → self.new ≡ self.old) }
+        ensures err_settings { OnErr result ((self.new.lg_k ≡ self.old.lg_k) × (self.new.start ≡ self.old.start)) }
         ensures refused { IfErr result (IsHashUpdateError self.old self.new (view_shows sketch.entry)) }
         ensures sound { IsUnion self.old }
         ensures content { IsRetained hash_key self.old.content }
@@ -120,6 +123,7 @@ impl<A: Allocator + Clone> ThetaUnion<A> {
         ensures accepted { OnOk result (update_all_refusal self.old (λ v. view_shows v) sketches.now ≡ None) }
         ensures given { OnOk result ((lg_k k start : ℕ) (hashes : List ℕ) (streams : List (List ℕ)) → IsUnionOf lg_k k start self.old hashes →
             ArePartsOf k start (map (λ v. view_value v) sketches.now) streams → IsUnionOf lg_k k start self.new (hashes ++ concat streams)) }
+        ensures err_settings { OnErr result ((self.new.lg_k ≡ self.old.lg_k) × (self.new.start ≡ self.old.start)) }
         ensures refused { IfErr result (IsHashUpdateAllError self.old self.new (λ v. view_shows v) sketches.now) }
         ensures sound { IsUnion self.old }
         ensures content { IsRetained hash_key self.old.content }
