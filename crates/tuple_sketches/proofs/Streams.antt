@@ -192,9 +192,6 @@ module _ {S P : Type 0} where
   pub union-made : (lg_k k start from hash : ℕ) (policy : P) (u : Union (TupleEntry S) P) → k ≤ 2 ^ lg_k → start ≤ from → u ≡ empty_union lg_k from hash policy → IsUnionOf lg_k k start u nothing
   union-made lg_k k start from hash policy u enough starts made = record { of_map = new-union (fold_key tuple_key) lg_k k start from hash policy (unmarked_union u) enough starts (ap unmarked_union made); none = λ _. refl }
 
-  pub union-reset : (lg_k k start : ℕ) (old new : Union (TupleEntry S) P) (given : Given S) → new ≡ empty_union old.lg_k old.start old.seed_hash old.policy → IsUnionOf lg_k k start old given → IsUnionOf lg_k k start new nothing
-  union-reset lg_k k start old new given after is = union-made lg_k k start old.start old.seed_hash old.policy new is.of_map.enough is.of_map.starts (after ∙ ap (λ (n : ℕ). empty_union n old.start old.seed_hash old.policy) is.of_map.nominal)
-
   pub union-lowered : (lg_k k start lg less : ℕ) (old new : Union (TupleEntry S) P) (given : Given S) → new ≡ lowered tuple_key lg old → union_value tuple_key new ≡ cut_value tuple_key (2 ^ lg) (union_value tuple_key old) → less ≤ k → less ≤ 2 ^ lg → IsUnionOf lg_k k start old given → IsUnionOf lg less start new given
   union-lowered lg_k k start lg less old new given after value fewer enough is =
       let in_folds : union_value (fold_key tuple_key) (unmarked_union new) ≡ cut_value (fold_key tuple_key) (2 ^ lg) (union_value (fold_key tuple_key) (unmarked_union old)) =

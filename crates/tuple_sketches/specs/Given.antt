@@ -18,7 +18,8 @@ pub record Given (S : Type 0) : Type 0 where
 abbrev pub nothing : {S : Type 0} → Given S
 nothing = record { whole = []; any = false }
 
--- and one value more at a hash: a policy creates the summary of a new hash, and updates it with the value
+-- and one value more at a hash: a policy creates the summary of a new hash, then updates the summary there with the
+-- value, or refuses, which leaves a mark
 abbrev pub with_value : {S U : Type 0} → (creates : Option S) → (updates : S → U → Option S) → (hash : ℕ) → (value : U) → Given S → Given S
 with_value creates updates hash value given =
     record { whole = whole_step (fold_key tuple_key) (folded_of tuple_key (update_step creates updates)) (Add hash value) given.whole; any = true }
@@ -51,21 +52,22 @@ abbrev pub united_all : {S : Type 0} → (combines : S → S → Option S) → G
 united_all combines given [] = given
 united_all combines given (more ∷ others) = united_all combines (united combines given more) others
 
--- the keys that both were given; a policy combines their summaries
+-- the folds of the keys that both were given; a policy combines their summaries, or refuses, which leaves a mark. No
+-- clause observes `any` of this
 abbrev pub shared : {S : Type 0} → (combines : S → S → Option S) → Given S → Given S → Given S
 shared combines given more =
     record { whole = common (fold_key tuple_key) (combined_folds combines) given.whole more.whole; any = given.any && more.any }
 
--- the keys that each of some others was given too
+-- the folds of the keys that each of some others was given too
 abbrev pub shared_by_all : {S : Type 0} → (combines : S → S → Option S) → Given S → List (Given S) → Given S
 shared_by_all combines given [] = given
 shared_by_all combines given (more ∷ others) = shared_by_all combines (shared combines given more) others
 
--- the keys that all of these were given
+-- the folds of the keys that all of these were given
 abbrev pub shared_by : {S : Type 0} → (combines : S → S → Option S) → List (Given S) → Given S
 shared_by combines [] = nothing
 shared_by combines (given ∷ others) = shared_by_all combines given others
 
--- the keys that one was given and another wasn't
+-- the folds of the keys that one was given and another wasn't. No clause observes `any` of this
 abbrev pub without : {S T : Type 0} → Given S → Given T → Given S
 without given others = record { whole = lacking (fold_key tuple_key) (fold_key tuple_key) given.whole others.whole; any = given.any }

@@ -52,7 +52,7 @@ pub record IsSampleOf {S : Type 0} (value : Sketch (TupleEntry S)) (given : Give
   pub sample : IsSample (fold_key tuple_key) (unmarked_value value) given.whole
 
 -- a value is a part of what a union is given: it samples its own, and its theta is lawful for k and the start, so it has
--- the k folds of least hash below the start, if there are so many. Only what was given nothing has the value Empty
+-- the k folds of least hash below the start, or all of them if there are fewer. A part that is Empty was given nothing
 pub record IsPartOf {S : Type 0} (k start : ℕ) (value : Sketch (TupleEntry S)) (given : Given S) : Type 0 where
   pub part : IsPart (fold_key tuple_key) k start (unmarked_value value) given.whole
   pub none : value ≡ Empty → given.any ≡ false
@@ -89,7 +89,7 @@ abbrev pub SamplesShared : {S : Type 0} → (combines : S → S → Option S) �
 SamplesShared combines None givens = givens ≡ []
 SamplesShared combines (Some value) givens = (givens ≢ []) × IsSampleOf value (shared_by combines givens)
 
--- an intersection whose policy combines so was given samples of these, and nothing else
+-- an intersection was given samples of these, whose summaries are combined so, and nothing else
 pub record IsIntersectionOf {S P : Type 0} (combines : S → S → Option S) (i : Intersection (TupleEntry S) P) (givens : List (Given S)) : Type 0 where
   pub shared : SamplesShared combines i.result givens
 

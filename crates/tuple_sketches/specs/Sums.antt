@@ -8,7 +8,7 @@ use Rattle.core_slots.specs.declared.entry.TupleEntry.{TupleEntry}
 use Rattle.core_streams.specs.HashSets.{set_of}
 use Rattle.tuple_sketches.specs.Given.{Given, given_values, hashes_of}
 
--- a stream of numbers, each with its hash: sums below 2^64, from 0 on
+-- a stream of numbers, each with its hash: each sum begins at 0; from 2^64 on it is a mark
 abbrev pub given_sums : (stream : List (ℕ × ℕ)) → Given ℕ
 given_sums stream = given_values (Some 0) (unsigned_sum 64) stream
 

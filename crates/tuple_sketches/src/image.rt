@@ -91,6 +91,7 @@ impl<S: TupleSummaryValue<A> + Drop, A: Allocator + Clone + Drop> CompactTupleSk
         ensures read_back { IfOk result (λ v. (s : Compact (TupleEntry S)) → Reads S.spells v.items self.now.seed_hash s → s ≡ self.now) }
         ensures refused { Refuses result None true }
     {
+        // Called for their clauses alone: the sketch keeps the laws of compact sketches, and its seed hash has 16 bits.
         let _ = (self.num_retained(), self.seed_hash());
         let alloc = self.state().allocator().clone()?;
         let capacity = greatest_size::<S, A>(self.state().retained_entries());

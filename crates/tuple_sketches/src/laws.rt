@@ -79,9 +79,9 @@ pub fn streams_of_values<S, U>()
         given_values creates updates (stream ++ value ∷ []) ≡ with_value creates updates value.0 value.1 (given_values creates updates stream) }
 {}
 
-/// Sums of two streams, united, are the sums of both streams in turn, the marks of sums of 2^64 or more included. What is
-/// retained of the k least folds of a stream of numbers, none of them a mark, are its k least hashes, each with the sum
-/// of its numbers.
+/// Sums of two streams, united, are the sums of both streams in turn, the marks of sums of 2^64 or more included. The
+/// entries that are retained of the k least folds of a stream of numbers, none of them a mark, are its k least hashes,
+/// each with the sum of its numbers.
 pub fn streams_of_sums()
     ensures united { (stream more : List (ℕ × ℕ)) → united (unsigned_sum 64) (given_sums stream) (given_sums more) ≡ given_sums (stream ++ more) }
     ensures least { (k start : ℕ) (stream : List (ℕ × ℕ)) (v : Retained (TupleEntry ℕ)) → unmarked v ≡ least_folds k (given_sums stream) start →

@@ -57,10 +57,13 @@ impl<P: SummaryPolicy + Drop, A: Allocator + Drop> TupleUnion<P, A> {
     }
 
     /// Makes it empty again, and ends a failure. It allocates nothing.
+    ///
+    /// `given` needs no fact of what the union was given, so it is there after a failure too: no call but `lower_lg_k`
+    /// changes a union's nominal entries, and none its start.
     pub fn reset(&mut self)
         ensures after { self.new.state ≡ empty_union self.old.state.lg_k self.old.state.start self.old.state.seed_hash self.old.state.policy }
-        ensures given { (lg_k k start : ℕ) (given : Given P.Summary) → IsUnionOf lg_k k start self.old.state given →
-            IsUnionOf lg_k k start self.new.state nothing }
+        ensures given { (k start : ℕ) → k ≤ 2 ^ self.old.state.lg_k → start ≤ self.old.state.start →
+            IsUnionOf self.old.state.lg_k k start self.new.state nothing }
         ensures sampled { IsUnionOfSamples self.new.state nothing }
     {
         self.state.reset();
@@ -97,6 +100,7 @@ impl<P: SummaryCombinePolicy + Drop, A: Allocator + Clone> TupleUnion<P, A> {
             IsSampleOf (view_value sketch.entry) more →
             IsUnionOfSamples self.new.state (united (P.combines self.old.state.policy) given more)) }
         ensures err_given { IfErr result (λ e. e ≢ OutOfMemory → e ≢ Policy → self.new.state ≡ self.old.state) }
+        ensures err_settings { OnErr result ((self.new.state.lg_k ≡ self.old.state.lg_k) × (self.new.state.start ≡ self.old.state.start)) }
         ensures refused { IfErr result (
             IsUpdateError tuple_key (combine_refused (P.combines self.old.state.policy)) self.old.state
             self.new.state (shows tuple_key sketch.entry) (sequence sketch.entry)) }
@@ -141,6 +145,7 @@ impl<P: SummaryCombinePolicy + Drop, A: Allocator + Clone> TupleUnion<P, A> {
             (lg_k k start : ℕ) (given : Given P.Summary) (others : List (Given P.Summary)) → IsUnionOf lg_k k start self.old.state given →
             ArePartsOf k start (map (λ v. view_value v) sketches.now) others →
             IsUnionOf lg_k k start self.new.state (united_all (P.combines self.old.state.policy) given others)) }
+        ensures err_settings { OnErr result ((self.new.state.lg_k ≡ self.old.state.lg_k) × (self.new.state.start ≡ self.old.state.start)) }
         ensures refused { IfErr result (
             IsUpdateAllError tuple_key (combined (P.combines self.old.state.policy))
             (combine_refused (P.combines self.old.state.policy)) self.old.state self.new.state
