@@ -222,5 +222,5 @@ each_sum stream =
     ])
 
 -- what is retained without a mark of the k least
-pub least-sums : (k start : ℕ) (stream : List (ℕ × ℕ)) (v : Retained (TupleEntry ℕ)) → unmarked v ≡ cut (fold_key tuple_key) k (given_sums stream).whole start → v ≡ least_sums k stream start
-least-sums k start stream v is = retained_numbers (sum_at stream) (set_of (hashes_of stream)) (given_sums stream).whole (keys-values (Some 0) (unsigned_sum 64) stream) (each_sum stream) k start v is
+pub sums_retained : (k start : ℕ) (stream : List (ℕ × ℕ)) (v : Retained (TupleEntry ℕ)) → unmarked v ≡ cut (fold_key tuple_key) k (given_sums stream).whole start → v ≡ least_sums k stream start
+sums_retained k start stream v is = retained_numbers (sum_at stream) (set_of (hashes_of stream)) (given_sums stream).whole (keys-values (Some 0) (unsigned_sum 64) stream) (each_sum stream) k start v is

@@ -2,7 +2,7 @@ use Rattle.std.proofs.Common.{◌≤◌, length, Some, sym, subst, arith, refl}
 use Rattle.std.proofs.Math.Seq.{take_all}
 use Rattle.tuple_sketches.specs.Streams.{IsUnionOf, unsigned_sum}
 use Rattle.tuple_sketches.proofs.GivenValues.{no_values}
-use Rattle.tuple_sketches.proofs.Sums.{least-sums}
+use Rattle.tuple_sketches.proofs.Sums.{sums_retained}
 use Rattle.example_spending.proofs.spent.Goals as goal
 
 pub days-init : goal.days-init
@@ -11,4 +11,4 @@ days-init c = subst (IsUnionOf _ _ _ _) (sym (no_values (Some 0) (unsigned_sum 6
 pub returns : goal.returns
 returns c =
     let end : length c.args.days.now ≤ c.days.purchases-index = omega (arith, c.days-test.false) in
-    least-sums _ _ _ _ (c.in_ok-sums.ensures.kmin _ _ (rw take_all at c.days.invariant) refl)
+    sums_retained _ _ _ _ (c.in_ok-sums.ensures.kmin _ _ (rw take_all at c.days.invariant) refl)
