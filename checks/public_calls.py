@@ -143,17 +143,20 @@ def refused_requests(inputs, found):
 
 def public_functions():
     """The public functions of all libraries, as checks/api_page.py prints them; laws have none that can be called."""
-    functions, crate, item = set(), "", ""
+    functions, crate, owner = set(), "", ""
     page = subprocess.run([sys.executable, f"{TOP}/checks/api_page.py", "--all"], capture_output=True, text=True, check=True).stdout
     for line in page.splitlines():
         if line.startswith("## "):
             crate = line[3:].strip()
         elif line.startswith("### "):
-            item = line[4:].strip()
-            if item[0].islower() and not item.startswith("laws::"):
-                functions.add((crate, item))
-        elif found := re.match(r"- `(?:const )?(?:unsafe )?fn (\w+)", line):
-            functions.add((crate, f"{item}::{found[1]}"))
+            # A type, or the functions and constants that no type has.
+            found = re.match(r"### `(?:struct|enum|trait) (\w+)", line)
+            owner = f"{found[1]}::" if found else ""
+        elif found := re.match(r"- `(?:const )?(?:unsafe )?fn ([\w:]+)", line):
+            if not found[1].startswith("laws::"):
+                functions.add((crate, owner + found[1]))
+        elif line.startswith("- As of `"):
+            functions |= {(crate, owner + it) for it in re.findall(r"`(\w+)`", line.partition(":")[2])}
     return functions
 
 
