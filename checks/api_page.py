@@ -163,12 +163,13 @@ def items_of(path):
 
 
 def signature(item):
-    text = plain(re.sub(r"^pub ", "", item.signature))
+    text = plain(re.sub(r"^pub (?:(?:const )?fn )?|^fn ", "", item.signature))
     text = re.sub(r"\s*(\{\}?|;|\bwhere\b.*)$", "", text)
     text = re.sub(r"\(\s+", "(", text)
     text = re.sub(r",\s*\)", ")", text)
     text = re.sub(r",\s*>", ">", text)
     text = re.sub(r"<\s+", "<", text)
+    text = text.replace("<'_>", "").replace("<'_, ", "<")
     if item.kind in ("struct", "enum"):
         text = re.split(r"\s*[{(;]", text)[0]
     return text
@@ -198,33 +199,54 @@ def names(clauses):
     return ", ".join(shown)
 
 
-def lines_of(item, mark, traits=()):
+def parts_of(item, traits=()):
+    """What a row says of an item behind its signature, by what it is about."""
     first, errors = described(item)
-    parts = [f"{mark}`{signature(item)}`"]
+    parts = {}
     if first:
-        parts.append(first if first.endswith((".", ":")) else first + ".")
+        parts["does"] = first if first.endswith((".", ":")) else first + "."
     if errors:
         # What a type says of refusals is about its calls.
-        parts.append("*Errors:* " + " ".join(map(under_errors, errors)) if item.kind == "fn" else " ".join(errors))
+        parts["errors"] = "*Errors:* " + " ".join(map(under_errors, errors)) if item.kind == "fn" else " ".join(errors)
     if traits:
-        parts.append("*Traits:* " + ", ".join(f"`{it}`" for it in sorted(set(traits))) + ".")
+        parts["traits"] = "*Traits:* " + ", ".join(f"`{it}`" for it in sorted(set(traits))) + "."
     # A clause without a name says what the function returns.
     if any(item.requires):
-        parts.append("*Requires:* " + names(item.requires) + ".")
+        parts["requires"] = "*Requires:* " + names(item.requires) + "."
     if any(item.ensures):
-        parts.append("*Ensures:* " + names(item.ensures) + ".")
-    return " ".join(parts)
+        parts["ensures"] = "*Ensures:* " + names(item.ensures) + "."
+    return parts
 
 
-def rows_of(name, members, first_types):
+def lines_of(item, mark, traits=()):
+    return " ".join([f"{mark}`{signature(item)}`", *parts_of(item, traits).values()])
+
+
+def row_beside(item, earlier):
+    """The row of a member: that in full, or, if it is shorter by more than 40 characters, one without the parts that an earlier type
+    has in its row of the same name. The earlier ones are pairs of a type and its parts."""
+    parts, full = parts_of(item), lines_of(item, "- ")
+    rows = []
+    for name, others in earlier:
+        # What leans on another member leans on the type's own.
+        own = [it for key, it in parts.items() if others.get(key) != it or "As of `" in it]
+        if others.keys() <= parts.keys():
+            rows.append(" ".join([f"- `{signature(item)}`", *own, f"Else as of `{name}`." if own else f"As of `{name}`."]))
+    return min((it for it in rows if len(it) + 40 < len(full)), key=len, default=full)
+
+
+def rows_of(name, members, first_types, earlier):
     """The rows of a type's members. Those that an earlier type has word for word are only named; the first type of each row is
-    kept in a table."""
+    kept in a table, and in another the parts of each member whose row is full, with its type."""
     out, same = [], {}
     for it in members:
-        row = lines_of(it, "- ")
-        first = first_types.setdefault(row, name)
+        full = lines_of(it, "- ")
+        first = first_types.setdefault(full, name)
         if first == name:
-            out.append(row)
+            of_name = earlier.setdefault(it.name, [])
+            out.append(row_beside(it, of_name))
+            if out[-1] == full:
+                of_name.append((name, parts_of(it)))
         else:
             same.setdefault(first, []).append(f"`{it.name}`")
     return out + [f"- As of `{first}`: {', '.join(them)}." for first, them in same.items()]
@@ -235,16 +257,16 @@ def page(libraries):
     out = [
         "# Public items",
         "",
-        "Made from the sources by `checks/api_page.py --write`; `checks/pages.py` compares them. Each item has its signature, what it does, its errors,"
+        "Made from the sources by `checks/api_page.py --write`. A row has the signature (without `fn` and `<'_>`), what the item does, its errors,"
         " and the names of its conditions on the caller (*Requires*) and of its promises (*Ensures*), whose text is in the source; clauses"
-        " without a name are not listed. *Traits* are those of std that a type derives or implements; `default()` is listed, other members"
-        " are those of the trait. What a type has word for word as an earlier one is named last.",
+        " without a name are not listed. *Traits* are those of std. \"As of\" a type means as its member of the same name; \"else\", in all that the"
+        " row doesn't have.",
         "",
     ]
     if libraries is USED:
         out[2] += (" What both families re-export is under theta_sketches, errors and hashers are under sketch_base. Laws are only named:"
-                   " `checks/pages.py --write build/pages` lists those of all libraries with what they say.")
-    first_types = {}
+                   " `checks/pages.py --write build/pages` lists them.")
+    first_types, earlier = {}, {}
     for library, shown in libraries.items():
         wanted, modules = exported(library)
         others, laws = [], []
@@ -271,13 +293,13 @@ def page(libraries):
                     if item.kind in ("struct", "enum", "trait"):
                         traits = item.traits + [it.name for it in owned if it.kind == "impl"]
                         out += [f"### `{signature(item)}`", "", lines_of(item, "", traits=traits).partition("` ")[2], ""]
-                        rows = rows_of(item.name, members, first_types)
+                        rows = rows_of(item.name, members, first_types, earlier)
                         out += rows + ([""] if rows else [])
                     elif module == "laws" and where and libraries is USED:
                         laws.append(f"`{item.name}`")
                     else:
                         row = lines_of(item, "- ")
-                        others.append(row.replace(f"fn {item.name}", f"fn {where}{item.name}", 1) if where else row)
+                        others.append(row.replace(f"`{item.name}", f"`{where}{item.name}", 1) if where else row)
         if laws:
             others.append(f"- In `laws`: {', '.join(laws)}.")
         out += ["### Functions, constants and other names", "", *others, ""] if others else []
