@@ -1,5 +1,6 @@
 #!/usr/bin/env python3
 """Makes the table of options in docs/use/DISTINCT.md from the help of `distinct`: a row for each option and meaning, with its commands.
+A meaning is the first sentence of the help, or what sentences of several commands begin with.
 
 checks/options_table.py prints the table, checks/options_table.py --write puts it into the page, and checks/pages.py compares both. The help is that of
 tests/distinct, which checks/distinct compares with the program's.
@@ -30,11 +31,13 @@ def table():
         return cases[name].output.decode()
 
     commands = helps.read(said("version"), said("help"), lambda name: said(f"help_on_{name}")).commands
+    options = [(command.name, FORMS[it.form].format(it.flag, it.value), it.flag, it.meaning.partition(". ")[0].replace("|", "\\|"))
+               for command in commands for it in command.options]
     found = {}
-    for command in commands:
-        for it in command.options:
-            row = (FORMS[it.form].format(it.flag, it.value), it.meaning.replace("|", "\\|"))
-            found.setdefault(it.flag, {}).setdefault(row, []).append(f"`{command.name}`")
+    for command, call, flag, meaning in options:
+        # The shortest sentence of this call with which its own begins.
+        shared = min((it for _, other, _, it in options if other == call and meaning.startswith(it)), key=len)
+        found.setdefault(flag, {}).setdefault((call, shared), []).append(f"`{command}`")
     rows = [(call, names, meaning) for rows in found.values() for (call, meaning), names in rows.items()]
     shown = [f"| `{call}` | {'all' if len(names) == len(commands) else ', '.join(names)} | {meaning} |\n" for call, names, meaning in rows]
     return HEAD + "".join(shown)
