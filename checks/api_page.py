@@ -258,9 +258,9 @@ def page(libraries):
         "# Public items",
         "",
         "Made from the sources by `checks/api_page.py --write`. A row has the signature (without `fn` and `<'_>`, and `Result<T>` is"
-        " `Result<T, Error>`), what the item does, its errors, and the names of its conditions on the caller (*Requires*) and of its promises (*Ensures*), whose text is in the source; clauses"
-        " without a name are not listed. *Traits* are those of std. \"As of\" a type means as its member of the same name; \"else\", in all that the"
-        " row doesn't have.",
+        " `Result<T, Error>`), what the item does, its errors, and the names of its conditions on the caller (*Requires*) and of its"
+        " promises (*Ensures*), whose text is in the source; clauses without a name are not listed. *Traits* are those of std. \"As of\" a"
+        " type means as its member of the same name; \"else\", in all that the row doesn't have.",
         "",
     ]
     if libraries is USED:
