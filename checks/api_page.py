@@ -209,7 +209,7 @@ def parts_of(item, traits=()):
         # What a type says of refusals is about its calls.
         parts["errors"] = "*Errors:* " + " ".join(map(under_errors, errors)) if item.kind == "fn" else " ".join(errors)
     if traits:
-        parts["traits"] = "*Traits:* " + ", ".join(f"`{it}`" for it in sorted(set(traits))) + "."
+        parts["traits"] = "*Traits:* " + ", ".join(sorted(set(traits))) + "."
     # A clause without a name says what the function returns.
     if any(item.requires):
         parts["requires"] = "*Requires:* " + names(item.requires) + "."
