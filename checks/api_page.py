@@ -163,16 +163,21 @@ def items_of(path):
 
 
 def signature(item):
-    text = plain(re.sub(r"^pub (?:(?:const )?fn )?|^fn ", "", item.signature))
+    text = plain(re.sub(r"^pub ", "", item.signature))
     text = re.sub(r"\s*(\{\}?|;|\bwhere\b.*)$", "", text)
     text = re.sub(r"\(\s+", "(", text)
     text = re.sub(r",\s*\)", ")", text)
     text = re.sub(r",\s*>", ">", text)
     text = re.sub(r"<\s+", "<", text)
-    text = text.replace("<'_>", "").replace("<'_, ", "<").replace(", Error>", ">")
     if item.kind in ("struct", "enum"):
         text = re.split(r"\s*[{(;]", text)[0]
     return text
+
+
+def short_signature(item):
+    """The signature as the page shows it, without what its first paragraph says once."""
+    text = re.sub(r"^(?:const )?fn ", "", signature(item))
+    return text.replace("<'_>", "").replace("<'_, ", "<").replace(", Error>", ">")
 
 
 def described(item):
@@ -219,7 +224,7 @@ def parts_of(item, traits=()):
 
 
 def lines_of(item, mark, traits=()):
-    return " ".join([f"{mark}`{signature(item)}`", *parts_of(item, traits).values()])
+    return " ".join([f"{mark}`{short_signature(item)}`", *parts_of(item, traits).values()])
 
 
 def row_beside(item, earlier):
@@ -231,7 +236,7 @@ def row_beside(item, earlier):
         # What leans on another member leans on the type's own.
         own = [it for key, it in parts.items() if others.get(key) != it or "As of `" in it]
         if others.keys() <= parts.keys():
-            rows.append(" ".join([f"- `{signature(item)}`", *own, f"Else as of `{name}`." if own else f"As of `{name}`."]))
+            rows.append(" ".join([f"- `{short_signature(item)}`", *own, f"Else as of `{name}`." if own else f"As of `{name}`."]))
     return min((it for it in rows if len(it) + 40 < len(full)), key=len, default=full)
 
 

@@ -152,7 +152,7 @@ def public_functions():
             # A type, or the functions and constants that no type has.
             found = re.match(r"### `(?:struct|enum|trait) (\w+)", line)
             owner = f"{found[1]}::" if found else ""
-        elif found := re.match(r"- `(?:const )?(?:unsafe )?fn ([\w:]+)", line):
+        elif found := re.match(r"- `([\w:]+)[(<]", line):
             if not found[1].startswith("laws::"):
                 functions.add((crate, owner + found[1]))
         elif line.startswith("- As of `"):
