@@ -3,8 +3,8 @@ ghost use Rattle.std.specs.Prelude.{◌≡◌, None};
 ghost use Rattle.c_objects.specs.Buffer.{WritesOf};
 ghost use Rattle.c_handles.specs.Calls.{OnObject, OnObjectWith, Fills, FillsFrom};
 ghost use Rattle.c_objects.specs.Settings.{IsSettingsRefusal};
-ghost use Rattle.c_objects.specs.Thetas.{OfSketch, OfCompact, OfImage};
-ghost use Rattle.c_objects.specs.Union.{IsNewUnion, AddsShown, IsUnionResult, IsUnionImage, IsResultRefusal, ResetsUnion};
+ghost use Rattle.c_objects.specs.Thetas.{OfCompact, OfImage};
+ghost use Rattle.c_objects.specs.Union.{IsNewUnion, AddsShown, AddsUpdatable, IsUnionResult, IsUnionImage, IsResultRefusal, ResetsUnion};
 
 use c_handles::handles::{CompactHandle, ThetaHandle, UnionHandle};
 use c_objects::union::built;
@@ -35,7 +35,7 @@ pub extern "C" fn kcp_union_free(alloc: Global, union: &mut UnionHandle)
 /// the sketch; then nothing has changed. Refused with `OUT_OF_MEMORY`; then the union has failed until it is reset.
 #[unsafe(no_mangle)]
 pub extern "C" fn kcp_union_add(union: &mut UnionHandle, sketch: &mut ThetaHandle) -> u32
-    ensures added { OnObjectWith (OfSketch AddsShown) sketch.old.value union.old.value result union.new.value }
+    ensures added { OnObjectWith AddsUpdatable sketch.old.value union.old.value result union.new.value }
     ensures unchanged { sketch.new.value ≡ sketch.old.value }
 {
     union.owned().add(sketch.owned())

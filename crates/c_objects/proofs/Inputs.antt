@@ -1,5 +1,5 @@
 -- Inputs of a merge that show the same and list the same as others: what is said of the ones is said of the others.
-use Rattle.std.proofs.Common.{◌≡◌, ℕ, ◌^◌, Bool, true, false, cond, List, [], ◌∷◌, map, Some, None, refl, sym, ap, subst, ◌∙◌}
+use Rattle.std.proofs.Common.{◌≡◌, ℕ, ◌^◌, true, false, cond, List, [], ◌∷◌, map, Some, None, refl, sym, ap, subst, ◌∙◌}
 use Rattle.std.specs.Prelude.{◌==◌, ◌||◌, MatchOption, flat_map}
 use Rattle.std.specs.List.{list_all}
 use Rattle.std.proofs.lemmas.Simd.{map-map}
@@ -39,7 +39,7 @@ module _ {V W P : Type 0} (f : V → Shown) (l : V → List ℕ) (g : W → Show
   same_entries : flat_map l vs ≡ flat_map m ws
   same_entries = sym (flat_map-map (λ x. x) l vs) ∙ ap (flat_map (λ x. x)) listed ∙ flat_map-map (λ x. x) m ws
 
-  same_values : map (λ v. shown_value hash_key (f v) (l v)) vs ≡ map (λ w. shown_value hash_key (g w) (m w)) ws
+  pub same_values : map (λ v. shown_value hash_key (f v) (l v)) vs ≡ map (λ w. shown_value hash_key (g w) (m w)) ws
   same_values = valued f l vs ∙ (λ i. values (shown i) (listed i)) ∙ sym (valued g m ws)
 
   same_refusal : update_all_refusal old f vs ≡ update_all_refusal old g ws

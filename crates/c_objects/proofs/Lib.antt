@@ -1,3 +1,4 @@
 mod Digits
 mod Inputs
+mod Merges
 mod Parts

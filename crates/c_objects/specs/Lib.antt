@@ -8,6 +8,7 @@ pub mod Numerals
 pub mod Quotients
 pub mod Settings
 pub mod Status
+pub mod Streams
 pub mod Strings
 pub mod Sums
 pub mod SumsIntersection

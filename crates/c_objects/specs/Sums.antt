@@ -1,5 +1,5 @@
 -- Calls on tuple sketches whose summaries are sums of 64 bits.
-use Rattle.std.specs.Prelude.{◌≡◌, ◌≢◌, ◌^◌, ℕ, List, true, false, nat_lt, length, IsTrue, Some, None}
+use Rattle.std.specs.Prelude.{◌≡◌, ◌≢◌, ◌^◌, ℕ, List, true, false, nat_lt, length, IsTrue, None}
 use Rattle.std.specs.Int.{w64, to_le_bytes}
 use Rattle.sketch_base.specs.Seed.{hash_of}
 use Rattle.core_compact.specs.CompactState.{Compact, IsAnswer}

@@ -1,26 +1,31 @@
 -- Calls on theta sketches: by the sketch before, the arguments, the status and the sketch after.
-use Rattle.std.specs.Prelude.{◌≡◌, ◌≢◌, ◌⊎◌, ◌^◌, ◌==◌, ◌&&◌, ℕ, Bool, List, length, true, false, nat_lt, if◌then◌else◌, IsTrue}
+use Rattle.std.specs.Prelude.{◌≡◌, ◌≢◌, ◌⊎◌, ◌^◌, ◌==◌, ◌&&◌, ℕ, Bool, List, [], ◌∷◌, length, true, false, nat_lt, if◌then◌else◌, IsTrue}
 use Rattle.std.specs.Int.{w64, to_le_bytes}
 use Rattle.sketch_base.specs.Seed.{hash_of, seed_hash}
 use Rattle.core_compact.specs.CompactState.{Compact, IsAnswer, shown_of}
 use Rattle.core_laws.specs.Entries.{hash_key}
+use Rattle.core_laws.specs.Parts.{StopsAt}
 use Rattle.core_laws.specs.Shown.{Shown}
 use Rattle.core_laws.specs.Values.{Sketch, theta_of, count_of}
 use Rattle.core_state.specs.Updatable.{sketch_value, sketch_shows, StopsUpdates}
 use Rattle.core_table.specs.HashTable.{empty_table, after_hash, after_hashes, after_reset, hash_allocates, trimmed_table}
 use Rattle.theta_sketches.specs.Image.{Reads, IsReadable, written}
+use Rattle.theta_sketches.specs.Streams.{IsSketchOf, GivesMore, GivesNothing}
 use Rattle.c_objects.specs.Status.{IsUnreadStatus}
+use Rattle.c_objects.specs.Streams.{GivesHashes, GivesTrimmed, GivesAnew, HasSketch, IsReadAs}
 use Rattle.c_objects.specs.declared.compact.CompactSketch.{CompactSketch}
 use Rattle.c_objects.specs.declared.state.State.{State}
 use Rattle.c_objects.specs.declared.theta.SeededSketch.{SeededSketch}
 
--- a new sketch: empty, with these settings
+-- a new sketch: empty, with these settings, and given nothing
 abbrev pub IsNewSketch : (lg_k start seed : ℕ) → SeededSketch → Type 0
-IsNewSketch lg_k start seed t = (t.seed ≡ seed) × (t.sketch.empty ≡ true) × (t.sketch.map ≡ empty_table lg_k start seed)
+IsNewSketch lg_k start seed t =
+    (t.seed ≡ seed) × (t.sketch.empty ≡ true) × (t.sketch.map ≡ empty_table lg_k start seed) × IsSketchOf lg_k start seed t.sketch []
 
--- a copy of a sketch: the same entries, theta and settings
+-- a copy of a sketch: the same entries, theta and settings, and given the same
 abbrev pub IsSameSketch : (old new : SeededSketch) → Type 0
-IsSameSketch old new = (new.seed ≡ old.seed) × (new.sketch.empty ≡ old.sketch.empty) × (new.sketch.map ≡ old.sketch.map)
+IsSameSketch old new =
+    (new.seed ≡ old.seed) × (new.sketch.empty ≡ old.sketch.empty) × (new.sketch.map ≡ old.sketch.map) × GivesNothing old.sketch new.sketch
 
 -- a hash was inserted, with status 0; or memory was refused, which an insertion requests only for a new hash below theta,
 -- with status 3, and nothing has changed
@@ -29,6 +34,7 @@ UpdatesHash hash old status new =
     (new.seed ≡ old.seed)
     × (status ≡ 0 → (new.sketch.empty ≡ false) × (new.sketch.map ≡ after_hash hash old.sketch.map))
     × (status ≢ 0 → (status ≡ 3) × (new.sketch.empty ≡ old.sketch.empty) × (new.sketch.map ≡ old.sketch.map) × IsTrue (hash_allocates hash old.sketch.map.kept))
+    × GivesHashes (hash ∷ []) old.sketch status new.sketch
 
 -- a number of 64 bits was inserted by the hash of its eight bytes, the lowest first
 abbrev pub UpdatesNumber : (number : ℕ) → (old : SeededSketch) → (status : ℕ) → (new : SeededSketch) → Type 0
@@ -44,6 +50,8 @@ UpdatesHashes hashes old status new =
     (new.seed ≡ old.seed)
     × (status ≡ 0 → (new.sketch.map ≡ after_hashes hashes old.sketch.map) × (new.sketch.empty ≡ (old.sketch.empty && length hashes == 0)))
     × (status ≢ 0 → (status ≡ 3) × StopsUpdates hashes old.sketch new.sketch)
+    × (status ≡ 0 → GivesMore old.sketch new.sketch (λ _. hashes))
+    × (status ≢ 0 → StopsAt hashes (λ front _. GivesMore old.sketch new.sketch (λ _. front)))
 
 -- the sketch was cut to its nominal entries, with status 0; or memory was refused, which a trim requests only if more are
 -- retained, with status 3, and nothing has changed
@@ -53,10 +61,13 @@ Trims old status new =
     × (new.sketch.empty ≡ old.sketch.empty)
     × (status ≡ 0 → new.sketch.map ≡ trimmed_table hash_key old.sketch.map)
     × (status ≢ 0 → (status ≡ 3) × (new.sketch.map ≡ old.sketch.map) × IsTrue (nat_lt (2 ^ old.sketch.map.lg_nom) (length old.sketch.map.kept.entries)))
+    × (status ≡ 0 → GivesTrimmed old.sketch new.sketch)
+    × (status ≢ 0 → GivesNothing old.sketch new.sketch)
 
 -- the sketch is empty again, as when it was new
 abbrev pub Resets : (old : SeededSketch) → (status : ℕ) → (new : SeededSketch) → Type 0
-Resets old status new = (status ≡ 0) × (new.seed ≡ old.seed) × (new.sketch.empty ≡ true) × (new.sketch.map ≡ after_reset old.sketch.map)
+Resets old status new =
+    (status ≡ 0) × (new.seed ≡ old.seed) × (new.sketch.empty ≡ true) × (new.sketch.map ≡ after_reset old.sketch.map) × GivesAnew old.sketch new.sketch
 
 -- the state of a value, with whether it is empty
 abbrev pub value_state : {X : Type 0} → Bool → Sketch X → State
@@ -73,21 +84,22 @@ state_of s = record { retained = length s.entries; theta = s.theta; empty = (if 
 abbrev pub compact_state : CompactSketch → State
 compact_state s = state_of s.sketch
 
--- the image of a compact sketch
+-- the image of a compact sketch, which is read as that sketch alone
 abbrev pub IsCompactImage : CompactSketch → List ℕ → Type 0
-IsCompactImage s image = image ≡ written s.sketch
+IsCompactImage s image = (image ≡ written s.sketch) × IsReadAs image s.sketch
 
 -- a copy of a compact sketch
 abbrev pub IsCopy : (old new : CompactSketch) → Type 0
 IsCopy old new = new ≡ old
 
--- the image of the ordered compact form of a sketch
+-- the image of the ordered compact form of a sketch, which is read as that form alone
 abbrev pub IsImageOf : SeededSketch → List ℕ → Type 0
-IsImageOf t image = (s : Compact ℕ) × (image ≡ written s) × IsAnswer hash_key (sketch_value t.sketch) t.sketch.map.seed_hash true s
+IsImageOf t image =
+    (s : Compact ℕ) × (image ≡ written s) × IsAnswer hash_key (sketch_value t.sketch) t.sketch.map.seed_hash true s × HasSketch t.sketch s × IsReadAs image s
 
 -- the ordered compact form of a sketch
 abbrev pub IsCompactForm : SeededSketch → CompactSketch → Type 0
-IsCompactForm t s = IsAnswer hash_key (sketch_value t.sketch) t.sketch.map.seed_hash true s.sketch
+IsCompactForm t s = IsAnswer hash_key (sketch_value t.sketch) t.sketch.map.seed_hash true s.sketch × HasSketch t.sketch s.sketch
 
 -- the sketch that bytes begin with, read under a seed
 abbrev pub IsReadFrom : (bytes : List ℕ) → (seed : ℕ) → CompactSketch → Type 0

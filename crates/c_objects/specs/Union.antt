@@ -4,21 +4,25 @@ use Rattle.sketch_base.specs.Seed.{seed_hash}
 use Rattle.sketch_base.specs.declared.error.ErrorKind.{ErrorKind}
 use Rattle.core_compact.specs.CompactState.{Compact, IsAnswer, shown_of}
 use Rattle.core_laws.specs.Entries.{hash_key}
-use Rattle.core_laws.specs.Shown.{Shown}
+use Rattle.core_laws.specs.Shown.{Shown, shown_value}
 use Rattle.core_laws.specs.declared.TheConstants.{MAX_THETA}
 use Rattle.core_operators.specs.Union.{empty_union, union_value, update_refusal, failure, JoinsHashes, UnitesHashes, IsHashUpdateError, all_empty, update_all_refusal, JoinsAllHashes, UnitesAllHashes, IsHashUpdateAllError}
 use Rattle.theta_sketches.specs.Image.{written}
 use Rattle.c_objects.specs.Status.{status_of, IsRefusal}
+use Rattle.c_objects.specs.Streams.{IsUnionOfNone, GivesPart, GivesSketch, GivesParts, HasUnion, IsReadAs}
+use Rattle.c_objects.specs.Thetas.{OfSketch}
 use Rattle.c_objects.specs.declared.batch.SeededBatch.{SeededBatch}
 use Rattle.c_objects.specs.declared.compact.CompactSketch.{CompactSketch}
+use Rattle.c_objects.specs.declared.theta.SeededSketch.{SeededSketch}
 use Rattle.c_objects.specs.declared.union.SeededUnion.{SeededUnion}
 
 -- a new union, without sketches
 abbrev pub IsNewUnion : (lg_k seed : ℕ) → SeededUnion → Type 0
-IsNewUnion lg_k seed u = (u.seed ≡ seed) × (u.union ≡ empty_union lg_k MAX_THETA (seed_hash seed) u.union.policy)
+IsNewUnion lg_k seed u =
+    (u.seed ≡ seed) × (u.union ≡ empty_union lg_k MAX_THETA (seed_hash seed) u.union.policy) × IsUnionOfNone lg_k MAX_THETA u.union
 
 -- a sketch that shows this was merged, with status 0: the union's value is united with the sketch's, and only an Empty sketch
--- changes nothing
+-- changes nothing; the union was given one part more
 abbrev pub Merges : Shown → (listing : List ℕ) → (old new : SeededUnion) → Type 0
 Merges shown listing old new =
     (update_refusal old.union shown ≡ None)
@@ -26,6 +30,7 @@ Merges shown listing old new =
     × UnitesHashes old.union new.union shown listing
     × JoinsHashes old.union new.union shown listing
     × (new.union ≡ record old.union { empty = new.union.empty; content = new.union.content })
+    × GivesPart (shown_value hash_key shown listing) old.union new.union
 
 -- a sketch was merged; or the union refused it, with 1 for another seed and with 5 if it has failed, and is unchanged; or
 -- memory was refused, with 3, and the union has failed
@@ -34,8 +39,12 @@ AddsShown shown listing old status new =
     (new.seed ≡ old.seed)
     × (((status ≡ 0) × Merges shown listing old new) ⊎ ((e : ErrorKind) × (status ≡ status_of e) × IsHashUpdateError old.union new.union shown e))
 
+-- a sketch that takes updates was merged, as `AddsShown` says; with status 0 the union was given what the sketch was given
+abbrev pub AddsUpdatable : SeededSketch → (old : SeededUnion) → (status : ℕ) → (new : SeededUnion) → Type 0
+AddsUpdatable t old status new = OfSketch AddsShown t old status new × (status ≡ 0 → GivesSketch t.sketch old.union new.union)
+
 -- sketches were merged together, with status 0: the union's value is united with all of theirs, as by one update after
--- another, and only if all are Empty nothing changes
+-- another, and only if all are Empty nothing changes; the union was given these parts more
 abbrev pub MergesAll : List (Compact ℕ) → (old new : SeededUnion) → Type 0
 MergesAll sketches old new =
     (update_all_refusal old.union (shown_of hash_key) sketches ≡ None)
@@ -43,6 +52,7 @@ MergesAll sketches old new =
     × UnitesAllHashes old.union new.union (shown_of hash_key) (λ s. s.entries) sketches
     × JoinsAllHashes old.union new.union (shown_of hash_key) (λ s. s.entries) sketches
     × (new.union ≡ record old.union { empty = new.union.empty; content = new.union.content })
+    × GivesParts sketches old.union new.union
 
 -- sketches were merged; or the union refused them, with 1 if one that isn't Empty has another seed and with 5 if it has
 -- failed, and is unchanged; or memory was refused, with 3, and the union has failed, or is unchanged
@@ -57,13 +67,17 @@ AddsAll sketches old status new =
 abbrev pub AddsBatch : SeededBatch → (old : SeededUnion) → (status : ℕ) → (new : SeededUnion) → Type 0
 AddsBatch batch old status new = AddsAll batch.sketches.items old status new
 
+-- an ordered compact sketch of the union's value, with the least hashes of what the union was given
+abbrev pub IsValueOf : SeededUnion → Compact ℕ → Type 0
+IsValueOf u s = IsAnswer hash_key (union_value hash_key u.union) u.union.seed_hash true s × HasUnion u.union s
+
 -- the union's value as an ordered compact sketch
 abbrev pub IsUnionResult : SeededUnion → CompactSketch → Type 0
-IsUnionResult u s = IsAnswer hash_key (union_value hash_key u.union) u.union.seed_hash true s.sketch
+IsUnionResult u s = IsValueOf u s.sketch
 
--- the image of the union's value, ordered
+-- the image of the union's value, ordered, which is read as that sketch alone
 abbrev pub IsUnionImage : SeededUnion → List ℕ → Type 0
-IsUnionImage u image = (s : Compact ℕ) × (image ≡ written s) × IsAnswer hash_key (union_value hash_key u.union) u.union.seed_hash true s
+IsUnionImage u image = (s : Compact ℕ) × (image ≡ written s) × IsValueOf u s × IsReadAs image s
 
 -- the refusal of the result: 5 if the union has failed, and otherwise 3
 abbrev pub IsResultRefusal : SeededUnion → (status : ℕ) → Type 0
@@ -71,4 +85,8 @@ IsResultRefusal u status = IsRefusal (failure u.union.failed) (not u.union.faile
 
 -- the union is as when it was new
 abbrev pub ResetsUnion : (old : SeededUnion) → (status : ℕ) → (new : SeededUnion) → Type 0
-ResetsUnion old status new = (status ≡ 0) × (new.seed ≡ old.seed) × (new.union ≡ empty_union old.union.lg_k old.union.start old.union.seed_hash old.union.policy)
+ResetsUnion old status new =
+    (status ≡ 0)
+    × (new.seed ≡ old.seed)
+    × (new.union ≡ empty_union old.union.lg_k old.union.start old.union.seed_hash old.union.policy)
+    × IsUnionOfNone old.union.lg_k old.union.start new.union

@@ -4,8 +4,8 @@ ghost use Rattle.core_laws.specs.Refusal.{Refuses};
 ghost use Rattle.core_laws.specs.Settings.{settings_refusal};
 ghost use Rattle.core_laws.specs.declared.TheConstants.{MAX_THETA};
 ghost use Rattle.theta_sketches.specs.View.{view_shows, view_sequence};
-ghost use Rattle.c_objects.specs.Thetas.{OfSketch, OfCompact, OfImage};
-ghost use Rattle.c_objects.specs.Union.{IsNewUnion, AddsShown, AddsAll, AddsBatch, IsUnionResult, IsUnionImage, IsResultRefusal, ResetsUnion};
+ghost use Rattle.c_objects.specs.Thetas.{OfCompact, OfImage};
+ghost use Rattle.c_objects.specs.Union.{IsNewUnion, AddsShown, AddsUpdatable, AddsAll, AddsBatch, IsUnionResult, IsUnionImage, IsResultRefusal, ResetsUnion};
 ghost use Rattle.c_objects.specs.declared.union.SeededUnion.{SeededUnion};
 
 use crate::batch::SeededBatch;
@@ -48,7 +48,7 @@ fn add(union: &mut SeededUnion, view: ThetaSketchView<'_, Global>) -> u32
 }
 
 impl Accepts<SeededSketch> for SeededUnion {
-    ghost adds = { OfSketch AddsShown };
+    ghost adds = { AddsUpdatable };
 
     fn add(&mut self, sketch: &SeededSketch) -> u32 {
         add(self, sketch.sketch.as_view())

@@ -1,9 +1,10 @@
-use Rattle.std.proofs.Common.{map, refl, inl, inr, ap, ◌∙◌}
+use Rattle.std.proofs.Common.{map, refl, sym, inl, inr, ap, subst, ◌∙◌}
 use Rattle.core_compact.specs.CompactState.{shown_of}
 use Rattle.core_laws.specs.Entries.{hash_key}
+use Rattle.theta_sketches.specs.Streams.{ArePartsOf}
 use Rattle.theta_sketches.specs.View.{view_shows, view_sequence}
 use Rattle.c_objects.specs.Status.{status_of}
-use Rattle.c_objects.proofs.Inputs.{accepted, skipped, united, joined, refused}
+use Rattle.c_objects.proofs.Inputs.{same_values, accepted, skipped, united, joined, refused}
 use Rattle.c_objects.proofs.union.add_all.Goals as goal
 
 pub returns-in-Ok-update_all : goal.returns-in-Ok-update_all
@@ -24,6 +25,9 @@ returns-in-Ok-update_all c =
           united (λ v. view_shows v) (λ v. view_sequence v) (shown_of hash_key) (λ s. s.entries) views sketches shown listed old new done.united,
           joined (λ v. view_shows v) (λ v. view_sequence v) (shown_of hash_key) (λ s. s.entries) views sketches shown listed old new done.joined,
           done.made_with,
+          λ lg_k k start hashes streams is parts.
+              let same = same_values (λ v. view_shows v) (λ v. view_sequence v) (shown_of hash_key) (λ s. s.entries) views sketches shown listed old new in
+              done.given lg_k k start hashes streams is (subst (λ values. ArePartsOf k start values streams) (sym same) parts),
         ),
       ),
     )
