@@ -4,13 +4,20 @@
  * bytes or a network, is checked and written anew. A transition state lives in the context of its aggregate, with all that the library
  * allocates for it (heap.h). A backend has one thread, and each state is used by one call at a time. */
 #include "postgres.h"
+#include "access/htup_details.h"
+#include "catalog/pg_aggregate.h"
 #include "catalog/pg_type.h"
 #include "common/base64.h"
 #include "fmgr.h"
 #include "heap.h"
 #include "libpq/pqformat.h"
+#include "nodes/execnodes.h"
+#include "nodes/nodeFuncs.h"
 #include "utils/array.h"
 #include "utils/builtins.h"
+#include "utils/lsyscache.h"
+#include "utils/syscache.h"
+#include "utils/typcache.h"
 #include "groups.h"
 
 PG_MODULE_MAGIC;
@@ -30,6 +37,13 @@ static int32 checked_lg_k(int32 lg_k) {
     return lg_k;
 }
 
+/* The third argument, lg_k. */
+static int32 lg_k_argument(FunctionCallInfo fcinfo) {
+    if (PG_ARGISNULL(2))
+        ereport(ERROR, errcode(ERRCODE_NULL_VALUE_NOT_ALLOWED), errmsg("theta_sketch: lg_k is NULL; it is a number from 4 to 26"));
+    return checked_lg_k(PG_GETARG_INT32(2));
+}
+
 /* ---- Images ---- */
 
 /* Reads the sketch that the bytes are the image of. */
@@ -43,6 +57,13 @@ static void read_bytes(const char *bytes, size_t count, kc_compact *out) {
 
 static void read_value(const bytea *image, kc_compact *out) { read_bytes(VARDATA_ANY(image), VARSIZE_ANY_EXHDR(image), out); }
 
+/* How many hashes a sketch retains. */
+static uint64_t retained_of(kc_compact *sketch) {
+    kc_state state = {0, 0, 0};
+    want(kc_compact_state(sketch, &state));
+    return state.retained;
+}
+
 /* The image of a sketch, with `room` bytes left free before it. The sketch is freed. */
 static bytea *image_behind(size_t room, kc_compact *sketch) {
     uint64_t length = 0;
@@ -55,14 +76,27 @@ static bytea *image_behind(size_t room, kc_compact *sketch) {
     return image;
 }
 
-static bytea *image_of(kc_compact *sketch) { return image_behind(0, sketch); }
+/* A value retains at most 2^24 hashes: it has 128 MiB then, and its text 171 MiB. PostgreSQL writes and reads a text of up to 512 MiB in
+ * each way, also as a literal in a dump. */
+enum { GREATEST_LG_K_OF_VALUE = 24 };
 
-/* The image that the library writes of the sketch of other bytes. */
+/* The value of a sketch, which is freed. */
+static bytea *value_of(kc_compact *sketch) {
+    if (retained_of(sketch) > (uint64_t)1 << GREATEST_LG_K_OF_VALUE)
+        ereport(ERROR, errcode(ERRCODE_PROGRAM_LIMIT_EXCEEDED),
+                errmsg("theta_sketch: the sketch retains %llu hashes, and a value at most %d, or its text would be too long",
+                       (unsigned long long)retained_of(sketch), 1 << GREATEST_LG_K_OF_VALUE),
+                errhint("Pass an lg_k of at most %d; make an image smaller by \"distinct union --lg-k %d\".", GREATEST_LG_K_OF_VALUE,
+                        GREATEST_LG_K_OF_VALUE));
+    return image_behind(0, sketch);
+}
+
+/* The value of the sketch that bytes from outside are the image of. */
 static bytea *rewritten(const char *bytes, size_t count) {
     kc_compact sketch = {0};
     theta_sketch_heap = CurrentMemoryContext;
     read_bytes(bytes, count, &sketch);
-    return image_of(&sketch);
+    return value_of(&sketch);
 }
 
 /* ---- The type ---- */
@@ -70,9 +104,10 @@ static bytea *rewritten(const char *bytes, size_t count) {
 PG_FUNCTION_INFO_V1(theta_sketch_in);
 Datum theta_sketch_in(PG_FUNCTION_ARGS) {
     const char *text = PG_GETARG_CSTRING(0);
-    int room = pg_b64_dec_len((int)strlen(text));
+    /* pg_b64_dec_len and pg_b64_enc_len overflow at such lengths; those of a value fit into an int. */
+    size_t length = strlen(text), room = length / 4 * 3 + 3;
     char *bytes = palloc(room);
-    int count = pg_b64_decode(text, (int)strlen(text), bytes, room);
+    int count = pg_b64_decode(text, (int)length, bytes, (int)room);
     if (count < 0) ereport(ERROR, errcode(ERRCODE_INVALID_TEXT_REPRESENTATION), errmsg("theta_sketch: the text is not base64"));
     PG_RETURN_BYTEA_P(rewritten(bytes, (size_t)count));
 }
@@ -80,9 +115,9 @@ Datum theta_sketch_in(PG_FUNCTION_ARGS) {
 PG_FUNCTION_INFO_V1(theta_sketch_out);
 Datum theta_sketch_out(PG_FUNCTION_ARGS) {
     bytea *image = PG_GETARG_BYTEA_PP(0);
-    int room = pg_b64_enc_len((int)VARSIZE_ANY_EXHDR(image));
+    size_t count = VARSIZE_ANY_EXHDR(image), room = (count + 2) / 3 * 4;
     char *text = palloc(room + 1);
-    int length = pg_b64_encode(VARDATA_ANY(image), (int)VARSIZE_ANY_EXHDR(image), text, room);
+    int length = pg_b64_encode(VARDATA_ANY(image), (int)count, text, (int)room);
     if (length < 0) elog(ERROR, "theta_sketch: base64 needs more room than it says");
     text[length] = 0;
     PG_RETURN_CSTRING(text);
@@ -143,24 +178,25 @@ Datum theta_sketch_to_string(PG_FUNCTION_ARGS) {
     PG_RETURN_TEXT_P(cstring_to_text_with_len(text, describe_state(&state, text)));
 }
 
-/* How many hashes a sketch retains. */
-static uint64_t retained_of(kc_compact *sketch) {
-    kc_state state = {0, 0, 0};
-    want(kc_compact_state(sketch, &state));
-    return state.retained;
-}
-
-/* Without lg_k, which an image doesn't record, the union keeps all that both sketches retain, up to 2^26 hashes. */
+/* NULL is no sketch: the union with it is the other sketch. Without lg_k, which an image doesn't record, the union keeps all that both
+ * sketches retain. */
 PG_FUNCTION_INFO_V1(theta_sketch_union);
 Datum theta_sketch_union(PG_FUNCTION_ARGS) {
-    union_group group = {.lg_k = (uint8_t)checked_lg_k(PG_NARGS() > 2 ? PG_GETARG_INT32(2) : DEFAULT_LG_K)};
-    kc_compact sketches[3] = {{0}};
+    union_group group = {{0}, {0}, DEFAULT_LG_K};
+    kc_compact sketches[2] = {{0}}, out = {0};
+    uint64_t retained = 0;
+    if (PG_ARGISNULL(0) && PG_ARGISNULL(1)) PG_RETURN_NULL();
     theta_sketch_heap = CurrentMemoryContext;
-    for (int i = 0; i < 2; i++) read_value(PG_GETARG_BYTEA_PP(i), &sketches[i]);
-    if (PG_NARGS() <= 2) group.lg_k = lg_k_for(retained_of(&sketches[0]) + retained_of(&sketches[1]));
-    for (int i = 0; i < 2; i++) want(union_add_sketch(&group, &sketches[i]));
-    want(union_result(&group, &sketches[2]));
-    PG_RETURN_BYTEA_P(image_of(&sketches[2]));
+    for (int i = 0; i < 2; i++) {
+        if (PG_ARGISNULL(i)) continue;
+        read_value(PG_GETARG_BYTEA_PP(i), &sketches[i]);
+        retained += retained_of(&sketches[i]);
+    }
+    group.lg_k = PG_NARGS() > 2 ? (uint8_t)lg_k_argument(fcinfo) : lg_k_for(retained);
+    for (int i = 0; i < 2; i++)
+        if (!PG_ARGISNULL(i)) want(union_add_sketch(&group, &sketches[i]));
+    want(union_result(&group, &out));
+    PG_RETURN_BYTEA_P(value_of(&out));
 }
 
 PG_FUNCTION_INFO_V1(theta_sketch_intersection);
@@ -173,7 +209,7 @@ Datum theta_sketch_intersection(PG_FUNCTION_ARGS) {
         want(meet_add(&group, &sketches[i]));
     }
     want(meet_result(&group, &sketches[2]));
-    PG_RETURN_BYTEA_P(image_of(&sketches[2]));
+    PG_RETURN_BYTEA_P(value_of(&sketches[2]));
 }
 
 PG_FUNCTION_INFO_V1(theta_sketch_a_not_b);
@@ -183,7 +219,7 @@ Datum theta_sketch_a_not_b(PG_FUNCTION_ARGS) {
     read_value(PG_GETARG_BYTEA_PP(0), &first);
     read_value(PG_GETARG_BYTEA_PP(1), &second);
     want(kc_difference(&first, &second, KC_DEFAULT_SEED, &out));
-    PG_RETURN_BYTEA_P(image_of(&out));
+    PG_RETURN_BYTEA_P(value_of(&out));
 }
 
 /* ---- Transition states ---- */
@@ -249,16 +285,63 @@ static void set_lg_k(union_group *group, int32 lg_k) {
 /* The state that a row is added to, with the lg_k of that row. */
 static UnionState *state_for_row(FunctionCallInfo fcinfo) {
     UnionState *state = union_state(fcinfo);
-    if (PG_NARGS() > 2 && PG_ARGISNULL(2))
-        ereport(ERROR, errcode(ERRCODE_NULL_VALUE_NOT_ALLOWED), errmsg("theta_sketch: lg_k is NULL; it is a number from 4 to 26"));
-    set_lg_k(&state->group, PG_NARGS() > 2 ? PG_GETARG_INT32(2) : DEFAULT_LG_K);
+    set_lg_k(&state->group, PG_NARGS() > 2 ? lg_k_argument(fcinfo) : DEFAULT_LG_K);
     return state;
+}
+
+/* ---- Keys ---- */
+
+/* The equality that PostgreSQL uses for a type, or for the type below a domain. */
+static Oid equality_of(Oid type) { return lookup_type_cache(type, TYPECACHE_EQ_OPR)->eq_opr; }
+
+/* Refuses a key that PostgreSQL casts by itself from a type with an equality of its own, such as citext. */
+static void check_cast(Node *key) {
+    if (!IsA(key, RelabelType) || castNode(RelabelType, key)->relabelformat != COERCE_IMPLICIT_CAST) return;
+    Oid type = exprType((Node *)castNode(RelabelType, key)->arg);
+    if (equality_of(type) == equality_of(exprType(key))) return;
+    ereport(ERROR, errcode(ERRCODE_FEATURE_NOT_SUPPORTED),
+            errmsg("theta_sketch: equal keys of type %s may have different bytes, by which a key is hashed", format_type_be(type)),
+            errhint("Pass x::text to count texts that differ in their bytes, or lower(x)."));
+}
+
+/* Whether an aggregate adds its rows by this function. */
+static bool is_added_by(Oid aggregate, Oid function) {
+    HeapTuple row = SearchSysCache1(AGGFNOID, ObjectIdGetDatum(aggregate));
+    if (!HeapTupleIsValid(row)) return false;
+    bool is_same = ((Form_pg_aggregate)GETSTRUCT(row))->aggtransfn == function;
+    ReleaseSysCache(row);
+    return is_same;
+}
+
+/* Checks, once for a call in a query, that keys are equal only if their bytes are. A function isn't passed the expression of its
+ * argument, so all aggregates of this node of the plan that call this function are checked. */
+static void check_keys(FunctionCallInfo fcinfo) {
+    ListCell *cell;
+    if (fcinfo->flinfo->fn_extra != NULL) return;
+    (void)aggregate_context(fcinfo);
+    if (OidIsValid(PG_GET_COLLATION()) && !get_collation_isdeterministic(PG_GET_COLLATION()))
+        ereport(ERROR, errcode(ERRCODE_FEATURE_NOT_SUPPORTED),
+                errmsg("theta_sketch: the collation of the keys is nondeterministic: equal keys may have different bytes, by which a key is hashed"),
+                errhint("Pass x COLLATE \"C\" to count texts that differ in their bytes, or lower(x) COLLATE \"C\"."));
+    if (IsA(fcinfo->context, AggState)) {
+        foreach (cell, castNode(AggState, fcinfo->context)->aggs) {
+            Aggref *call = lfirst_node(Aggref, cell);
+            if (is_added_by(call->aggfnoid, fcinfo->flinfo->fn_oid)) check_cast((Node *)linitial_node(TargetEntry, call->args)->expr);
+        }
+    } else if (IsA(fcinfo->context, WindowAggState)) {
+        foreach (cell, castNode(WindowAggState, fcinfo->context)->funcs) {
+            WindowFunc *call = lfirst_node(WindowFuncExprState, cell)->wfunc;
+            if (is_added_by(call->winfnoid, fcinfo->flinfo->fn_oid)) check_cast(linitial(call->args));
+        }
+    }
+    fcinfo->flinfo->fn_extra = fcinfo->flinfo;
 }
 
 /* ---- Aggregates that unite ---- */
 
 PG_FUNCTION_INFO_V1(theta_sketch_add_bytes);
 Datum theta_sketch_add_bytes(PG_FUNCTION_ARGS) {
+    check_keys(fcinfo);
     if (PG_ARGISNULL(1)) return unchanged(fcinfo);
     UnionState *state = state_for_row(fcinfo);
     bytea *key = PG_GETARG_BYTEA_PP(1);
@@ -352,7 +435,7 @@ PG_FUNCTION_INFO_V1(theta_sketch_final);
 Datum theta_sketch_final(PG_FUNCTION_ARGS) {
     kc_compact sketch = {0};
     result_of(fcinfo, &sketch);
-    PG_RETURN_BYTEA_P(image_of(&sketch));
+    PG_RETURN_BYTEA_P(value_of(&sketch));
 }
 
 PG_FUNCTION_INFO_V1(theta_sketch_final_estimate);
@@ -403,11 +486,11 @@ Datum theta_sketch_meet_serialize(PG_FUNCTION_ARGS) {
     bytea *exact = NULL, *sampled = NULL;
     if (state->group.exact.object != NULL) {
         want(meet_piece(&state->group.exact, &sketch));
-        exact = image_of(&sketch);
+        exact = image_behind(0, &sketch);
     }
     if (state->group.sampled.object != NULL) {
         want(meet_piece(&state->group.sampled, &sketch));
-        sampled = image_of(&sketch);
+        sampled = image_behind(0, &sketch);
     }
     uint64 length = exact != NULL ? VARSIZE(exact) - VARHDRSZ : 0;
     uint64 rest = sampled != NULL ? VARSIZE(sampled) - VARHDRSZ : 0;
@@ -449,5 +532,5 @@ Datum theta_sketch_meet_final(PG_FUNCTION_ARGS) {
     kc_compact sketch = {0};
     if (PG_ARGISNULL(0)) PG_RETURN_NULL();
     want(meet_result(&meet_state(fcinfo)->group, &sketch));
-    PG_RETURN_BYTEA_P(image_of(&sketch));
+    PG_RETURN_BYTEA_P(value_of(&sketch));
 }

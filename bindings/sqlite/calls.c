@@ -91,4 +91,5 @@ void put_bounds(context *call, const kc_state *state, uint32_t deviations) {
     kc_wide lower, upper;
     if (!passed(call, kc_count_bounds(state->retained, state->theta, deviations, &lower, &upper))) return;
     sqlite3_result_text(call, text, describe_bounds(lower, upper, text), SQLITE_TRANSIENT);
+    sqlite3_result_subtype(call, 'J'); /* JSON, to SQLite's functions of JSON */
 }

@@ -69,18 +69,23 @@ static const struct { const char *name; int arguments; step *add; end *final, *c
     {"tuple_sketch_intersection", 1, sums_meet_step, sums_meet_final, sums_meet_value},
 };
 
-static const struct { const char *name; int arguments; step *call; } functions[] = {
-    {"theta_sketch_a_not_b", 2, theta_a_not_b},
-    {"theta_sketch_get_estimate", 1, theta_get_estimate},
-    {"theta_sketch_get_bounds", 1, theta_get_bounds},
-    {"theta_sketch_get_bounds", 2, theta_get_bounds},
-    {"theta_sketch_to_text", 1, to_text},
-    {"tuple_sketch_a_not_b", 2, sums_a_not_b},
-    {"tuple_sketch_get_estimate", 1, sums_get_estimate},
-    {"tuple_sketch_get_bounds", 1, sums_get_bounds},
-    {"tuple_sketch_get_bounds", 2, sums_get_bounds},
-    {"tuple_sketch_get_total", 1, sums_get_total},
-    {"tuple_sketch_to_text", 1, sums_to_text},
+/* From SQLite 3.45 on a function says that its result has a subtype; earlier ones ignore this. */
+#ifndef SQLITE_RESULT_SUBTYPE
+#define SQLITE_RESULT_SUBTYPE 0x001000000
+#endif
+
+static const struct { const char *name; int arguments, flags; step *call; } functions[] = {
+    {"theta_sketch_a_not_b", 2, 0, theta_a_not_b},
+    {"theta_sketch_get_estimate", 1, 0, theta_get_estimate},
+    {"theta_sketch_get_bounds", 1, SQLITE_RESULT_SUBTYPE, theta_get_bounds},
+    {"theta_sketch_get_bounds", 2, SQLITE_RESULT_SUBTYPE, theta_get_bounds},
+    {"theta_sketch_to_text", 1, 0, to_text},
+    {"tuple_sketch_a_not_b", 2, 0, sums_a_not_b},
+    {"tuple_sketch_get_estimate", 1, 0, sums_get_estimate},
+    {"tuple_sketch_get_bounds", 1, SQLITE_RESULT_SUBTYPE, sums_get_bounds},
+    {"tuple_sketch_get_bounds", 2, SQLITE_RESULT_SUBTYPE, sums_get_bounds},
+    {"tuple_sketch_get_total", 1, 0, sums_get_total},
+    {"tuple_sketch_to_text", 1, 0, sums_to_text},
 };
 
 #define COUNT(table) (sizeof(table) / sizeof *(table))
@@ -95,7 +100,7 @@ __attribute__((visibility("default"))) int sqlite3_thetasketch_init(sqlite3 *db,
         status = sqlite3_create_window_function(db, aggregates[i].name, aggregates[i].arguments, flags, (void *)aggregates[i].name, aggregates[i].add,
                                                 aggregates[i].final, aggregates[i].current, refuse_inverse, NULL);
     for (size_t i = 0; i < COUNT(functions) && status == SQLITE_OK; i++)
-        status = sqlite3_create_function_v2(db, functions[i].name, functions[i].arguments, flags, (void *)functions[i].name, functions[i].call,
-                                            NULL, NULL, NULL);
+        status = sqlite3_create_function_v2(db, functions[i].name, functions[i].arguments, flags | functions[i].flags, (void *)functions[i].name,
+                                            functions[i].call, NULL, NULL, NULL);
     return status;
 }
