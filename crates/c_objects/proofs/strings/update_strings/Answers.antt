@@ -6,5 +6,5 @@ pub returns-in-Ok : goal.returns-in-Ok
 returns-in-Ok c =
     let same = c.as_slice.ensures.value ∙ c.in-Ok.ensures.hashes in
     let updates =
-        subst (λ (hs : List ℕ). UpdatesHashes hs c.args.theta.now c.update_hashes.result c.update_hashes.new.theta) same c.update_hashes.ensures in
+    subst (λ (hs : List ℕ). UpdatesHashes hs c.args.theta.now c.update_hashes.result c.update_hashes.new.theta) same c.update_hashes.ensures in
     inl (c.in-Ok.ensures.valid, updates)

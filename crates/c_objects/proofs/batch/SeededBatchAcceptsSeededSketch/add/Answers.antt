@@ -6,12 +6,12 @@ use Rattle.c_objects.proofs.batch.SeededBatchAcceptsSeededSketch.add.Goals as go
 pub returns-after-push : goal.returns-after-push
 returns-after-push c = elim c.match-push.branch [
   | in-Ok-push w ↦ rw (w.result-is) (
-    let has : HasSketch c.args.sketch.now.sketch c.in-Ok.compact = record {
-      part = c.in-Ok.ensures.part;
-      seeded = c.in-Ok.ensures.seeded;
-      least = c.in-Ok.ensures.least;
-      kmin = λ lg_k seed hashes is. c.in-Ok.ensures.kmin lg_k seed hashes is refl;
-    } in
-    inl (refl, (record { sketch = c.in-Ok.compact }, (c.in-Ok.ensures.ok, has), (refl, w.in-Ok-push.ensures.items))))
+      let has : HasSketch c.args.sketch.now.sketch c.in-Ok.compact = record {
+        part = c.in-Ok.ensures.part;
+        seeded = c.in-Ok.ensures.seeded;
+        least = c.in-Ok.ensures.least;
+        kmin = λ lg_k seed hashes is. c.in-Ok.ensures.kmin lg_k seed hashes is refl;
+      } in
+      inl (refl, (record { sketch = c.in-Ok.compact }, (c.in-Ok.ensures.ok, has), (refl, w.in-Ok-push.ensures.items))))
   | in-Err-push w ↦ rw (w.result-is) (inr (refl, (refl, w.in-Err-push.ensures.items)))
 ]
