@@ -431,7 +431,7 @@ def happened(name, fault, found):
 def fail_output(faults, command, old, fault, whole=None):
     """A command with --output that fails leaves the files of its folder as they were, and no other file. If only memory was
     refused it may also have written its whole answer."""
-    folder, data = faults.name("out"), os.path.join(LINES, "data")
+    folder, data = faults.name("out"), os.path.join(distinct_cases.FOLDER, "data")
     os.mkdir(folder)
     if old:
         with open(os.path.join(folder, "answer"), "wb") as file:
