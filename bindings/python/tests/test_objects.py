@@ -2,6 +2,7 @@
 import gc
 import importlib.util
 import inspect
+import io
 import os
 import pickle
 import subprocess
@@ -63,7 +64,7 @@ def test_objects_that_were_not_made(kind):
     for name in dir(it):
         if name.startswith("_") or name == "from_bytes":
             continue
-        arguments = {"update": [b"ann"], "update_many": [["ann"]]}.get(name, [])
+        arguments = {"update": [b"ann"], "update_many": [["ann"]], "update_lines": [io.BytesIO(b"ann\n")]}.get(name, [])
         with pytest.raises(RuntimeError, match="was not made"):
             found = getattr(it, name)
             found(*arguments)
