@@ -206,15 +206,15 @@ def _encoded(value):
 
 
 def _strings(values, form):
-    ends, data = [0], b""
+    ends, data = [0], bytearray()
     for value in values:
         data += b"junk" if value is None else _encoded(value)  # a missing row may have bytes
         ends.append(len(data))
-    return [struct.pack(f"<{len(ends)}{form}", *ends), data]
+    return [struct.pack(f"<{len(ends)}{form}", *ends), bytes(data)]
 
 
 def _views(values):
-    views, pieces = b"", [b"", b"piece"]
+    views, pieces = bytearray(), [bytearray(), bytearray(b"piece")]
     for value in values:
         data = b"" if value is None else _encoded(value)
         if len(data) <= 12:
@@ -223,7 +223,7 @@ def _views(values):
         piece = len(data) % 2
         views += struct.pack("<i4sii", len(data), data[:4], piece, len(pieces[piece]))
         pieces[piece] += data
-    return [views, *pieces, struct.pack("<2q", *map(len, pieces))]
+    return [bytes(views), *map(bytes, pieces), struct.pack("<2q", *map(len, pieces))]
 
 
 def column(format, values, before=0, after=0, knows_nulls=True, kind=Column):
