@@ -28,7 +28,14 @@ abbrev pub IsRefusedWith : {T : Type 0} → Result T ErrorKind → (status : ℕ
 IsRefusedWith made status = MatchResult made (λ _. status ≡ 3) (λ e. status ≡ status_of e)
 
 -- a call that fills a handle from an object: without one it is refused with 1, and the handle is as before
-abbrev pub FillsFrom : {S T : Type 0} → (IsMade : S → T → Type 0) → (IsRefused : S → ℕ → Type 0) → Option S → Option T → (status : ℕ) → Option T → Type 0
+abbrev pub FillsFrom : {S T : Type 0}
+    → (IsMade : S → T → Type 0)
+    → (IsRefused : S → ℕ → Type 0)
+    → Option S
+    → Option T
+    → (status : ℕ)
+    → Option T
+    → Type 0
 FillsFrom IsMade IsRefused None old status new = (status ≡ 1) × (new ≡ old)
 FillsFrom IsMade IsRefused (Some source) old status new = Fills (IsMade source) (IsRefused source) old status new
 
@@ -48,10 +55,18 @@ abbrev pub FillsFromTwo : {S T : Type 0} → (AreAccepted : S → S → Type 0) 
     → (first second : Option S) → (old : Option T) → (status : ℕ) → (new : Option T) → Type 0
 FillsFromTwo AreAccepted IsMade IsRefused None second old status new = (status ≡ 1) × (new ≡ old)
 FillsFromTwo AreAccepted IsMade IsRefused (Some a) None old status new = (status ≡ 1) × (new ≡ old)
-FillsFromTwo AreAccepted IsMade IsRefused (Some a) (Some b) old status new = Fills (λ made. AreAccepted a b × IsMade a b made) (IsRefused a b) old status new
+FillsFromTwo AreAccepted IsMade IsRefused (Some a) (Some b) old status new =
+    Fills (λ made. AreAccepted a b × IsMade a b made) (IsRefused a b) old status new
 
 -- a call that may change two objects: without either it is refused with 1, and neither changes
-abbrev pub OnBoth : {S T : Type 0} → (Does : S → T → ℕ → S → T → Type 0) → (old_first : Option S) → (old : Option T) → (status : ℕ) → (new_first : Option S) → (new : Option T) → Type 0
+abbrev pub OnBoth : {S T : Type 0}
+    → (Does : S → T → ℕ → S → T → Type 0)
+    → (old_first : Option S)
+    → (old : Option T)
+    → (status : ℕ)
+    → (new_first : Option S)
+    → (new : Option T)
+    → Type 0
 OnBoth Does None old status new_first new = (status ≡ 1) × (new_first ≡ None) × (new ≡ old)
 OnBoth Does (Some a) None status new_first new = (status ≡ 1) × (new_first ≡ Some a) × (new ≡ None)
 OnBoth Does (Some a) (Some b) status None new = ⊥

@@ -52,9 +52,9 @@ impl<T: Drop> Owned<T> {
         let _ = std::mem::replace(self, Owned::none()).into_box(alloc);
     }
 
-    /// Puts a new object in, and returns the status: `OK`; `INVALID_ARGUMENT` if there is an object already; the status
-    /// in `made` if making the object was refused; `OUT_OF_MEMORY` if memory for it is refused. If refused, nothing has
-    /// changed.
+    /// Puts a new object in, and returns the status: `OK`; `INVALID_ARGUMENT` if there is an object already; the
+    /// status in `made` if making the object was refused; `OUT_OF_MEMORY` if memory for it is refused. If refused,
+    /// nothing has changed.
     pub fn put_or(&mut self, alloc: Global, made: Result<T, u32>) -> u32
         ensures { Fills (IsMadeBy made) (IsRefusedBy made) self.old.value result self.new.value }
     {

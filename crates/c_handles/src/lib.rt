@@ -1,8 +1,10 @@
-//! The handles of C, and what calls do to the objects behind them: a library, without exports, which are in `c_library`.
+//! The handles of C, and what calls do to the objects behind them: a library, without exports, which are in
+//! `c_library`.
 //!
-//! C keeps each object in a handle (`handles`), a struct of one pointer that is null if the handle has none. Contracts see a
-//! handle as the object that it owns, or none. A handle passes on its pointer with the type of the object (`owned`). What is
-//! done with objects of several kinds is done on that pointer, once for all (`access`, `calls`).
+//! C keeps each object in a handle (`handles`), a struct of one pointer that is null if the handle has none.
+//! Contracts see a handle as the object that it owns, or none. A handle passes on its pointer with the type of the
+//! object (`owned`). What is done with objects of several kinds is done on that pointer, once for all (`access`,
+//! `calls`).
 #![tactic(auto)]
 
 mod access;

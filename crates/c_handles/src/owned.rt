@@ -7,8 +7,8 @@ use crate::loose::Loose;
 use std::alloc::Global;
 use std::marker::Model;
 
-/// A pointer that owns a box, or is null and owns nothing. It is not `Drop`, so the check refuses a function that forgets
-/// one.
+/// A pointer that owns a box, or is null and owns nothing. It is not `Drop`, so the check refuses a function that
+/// forgets one.
 pub struct Owned<T> {
     pub(crate) at: *mut T,
     pub ghost value: { Option T } by { coded_option T.code },

@@ -28,11 +28,11 @@ pub extern "C" fn kcp_batch_free(alloc: Global, batch: &mut BatchHandle)
     batch.owned().free(alloc);
 }
 
-/// Puts a copy of a sketch that takes updates into a batch, its ordered compact form. The sketch doesn't change, and later
-/// updates don't change the copy. Its seed is checked when the batch is merged.
+/// Puts a copy of a sketch that takes updates into a batch, its ordered compact form. The sketch doesn't change, and
+/// later updates don't change the copy. Its seed is checked when the batch is merged.
 ///
-/// Refused with `INVALID_ARGUMENT` if a handle has no object, and with `OUT_OF_MEMORY`; then the batch has the same sketches
-/// as before.
+/// Refused with `INVALID_ARGUMENT` if a handle has no object, and with `OUT_OF_MEMORY`; then the batch has the same
+/// sketches as before.
 #[unsafe(no_mangle)]
 pub extern "C" fn kcp_batch_add(batch: &mut BatchHandle, sketch: &mut ThetaHandle) -> u32
     ensures added { OnObjectWith AddsSketch sketch.old.value batch.old.value result batch.new.value }
@@ -52,8 +52,8 @@ pub extern "C" fn kcp_batch_add_compact(batch: &mut BatchHandle, sketch: &mut Co
 
 /// Puts the sketch that the bytes begin with into a batch, read under the batch's seed.
 ///
-/// Refused with `INVALID_DATA` if the bytes begin with no sketch of this seed, and otherwise as `kcp_batch_add` is; then the
-/// batch has the same sketches as before.
+/// Refused with `INVALID_DATA` if the bytes begin with no sketch of this seed, and otherwise as `kcp_batch_add` is;
+/// then the batch has the same sketches as before.
 #[unsafe(no_mangle)]
 pub extern "C" fn kcp_batch_add_image(alloc: Global, batch: &mut BatchHandle, image: &[u8]) -> u32
     ensures { OnObject (AddsImage image.now) batch.old.value result batch.new.value }
@@ -69,12 +69,13 @@ pub extern "C" fn kcp_batch_reset(batch: &mut BatchHandle) -> u32
     batch.owned().reset()
 }
 
-/// Merges all sketches of a batch into a union, which then has the value of one `kcp_union_add` after another. The batch
-/// doesn't change. Empty sketches change nothing, and their seeds are not checked.
+/// Merges all sketches of a batch into a union, which then has the value of one `kcp_union_add` after another. The
+/// batch doesn't change. Empty sketches change nothing, and their seeds are not checked.
 ///
-/// Refused with `INVALID_ARGUMENT` if a handle has no object or a sketch is of another seed, and with `FAILED` if the union has
-/// failed, whatever the sketches; then none is merged and nothing has changed. Refused with `OUT_OF_MEMORY`: if memory runs
-/// out in the merge, the union has failed until it is reset; if it runs out before, none is merged and nothing has changed.
+/// Refused with `INVALID_ARGUMENT` if a handle has no object or a sketch is of another seed, and with `FAILED` if the
+/// union has failed, whatever the sketches; then none is merged and nothing has changed. Refused with
+/// `OUT_OF_MEMORY`: if memory runs out in the merge, the union has failed until it is reset; if it runs out before,
+/// none is merged and nothing has changed.
 #[unsafe(no_mangle)]
 pub extern "C" fn kcp_union_add_batch(union: &mut UnionHandle, batch: &mut BatchHandle) -> u32
     ensures added { OnObjectWith AddsBatch batch.old.value union.old.value result union.new.value }

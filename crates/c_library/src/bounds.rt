@@ -19,8 +19,8 @@ pub extern "C" fn kcp_estimate_numerator(retained: u64, out: &mut Wide)
     *out = split(retained as u128 * MAX_THETA as u128);
 }
 
-/// Writes the estimate of a state rounded down to `places` decimals, from 0 to 19: its whole part, and the decimals as one
-/// number below 10^`places`.
+/// Writes the estimate of a state rounded down to `places` decimals, from 0 to 19: its whole part, and the decimals
+/// as one number below 10^`places`.
 ///
 /// Refused with `INVALID_ARGUMENT` if no sketch has such a state or there are more decimals.
 #[unsafe(no_mangle)]
@@ -46,15 +46,17 @@ pub extern "C" fn kcp_estimate_text(
     text: &mut [u8],
     length: &mut u64,
 ) -> u32
-    ensures { WritesText (parts_of (is_state state.now.retained state.now.theta) (numerator state.now.retained, state.now.theta) places)
+    ensures { WritesText
+        (parts_of (is_state state.now.retained state.now.theta) (numerator state.now.retained, state.now.theta)
+        places)
         places text.old length.old result text.new length.new }
 {
     let parts = estimate_parts(state.retained, state.theta, places);
     put_parts_text(parts, places, text, length)
 }
 
-/// Writes the nearest whole number to the estimate of a state; a half is rounded up. Refused with `INVALID_ARGUMENT` if no
-/// sketch has such a state.
+/// Writes the nearest whole number to the estimate of a state; a half is rounded up. Refused with `INVALID_ARGUMENT`
+/// if no sketch has such a state.
 #[unsafe(no_mangle)]
 pub extern "C" fn kcp_estimate_rounded(retained: u64, theta: u64, out: &mut Wide) -> u32
     ensures { WritesNumber (rounded_of (is_state retained theta) (numerator retained, theta)) out.old result out.new }
@@ -63,8 +65,8 @@ pub extern "C" fn kcp_estimate_rounded(retained: u64, theta: u64, out: &mut Wide
 }
 
 /// Writes bounds of the number of distinct values by 1, 2 or 3 standard deviations: the ends of the Wilson score
-/// interval, rounded outwards. If hashes are random, the number is within them in about 68, 95 or 99.7 of 100 sketches;
-/// that isn't proved.
+/// interval, rounded outwards. If hashes are random, the number is within them in about 68, 95 or 99.7 of 100
+/// sketches; that isn't proved.
 ///
 /// Refused with `INVALID_ARGUMENT` if no sketch has such a state or `deviations` isn't 1, 2 or 3.
 #[unsafe(no_mangle)]

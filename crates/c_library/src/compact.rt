@@ -10,8 +10,8 @@ use c_handles::handles::CompactHandle;
 use c_objects::state::State;
 use std::alloc::Global;
 
-/// Reads the sketch that the bytes begin with, under this seed; bytes after it are ignored. Serial versions 1, 2 and 3
-/// are read.
+/// Reads the sketch that the bytes begin with, under this seed; bytes after it are ignored. Serial versions 1, 2 and
+/// 3 are read.
 ///
 /// Refused with `INVALID_DATA` if the bytes begin with no sketch of this seed, and with `OUT_OF_MEMORY`.
 #[unsafe(no_mangle)]
@@ -21,7 +21,8 @@ pub extern "C" fn kcp_compact_read(
     image: &[u8],
     seed: u64,
 ) -> u32
-    ensures { Fills (IsReadFrom image.now seed) (IsReadRefusal image.now seed) sketch.old.value result sketch.new.value }
+    ensures { Fills (IsReadFrom image.now seed) (IsReadRefusal image.now seed) sketch.old.value result
+        sketch.new.value }
 {
     sketch.owned().read(alloc, image, seed)
 }
@@ -64,7 +65,8 @@ pub extern "C" fn kcp_compact_image(
     out: &mut [u8],
     length: &mut u64,
 ) -> u32
-    ensures image { WritesOf IsCompactImage (λ _. IsMemoryRefusal) sketch.old.value out.old length.old result out.new length.new }
+    ensures image { WritesOf IsCompactImage (λ _. IsMemoryRefusal) sketch.old.value out.old length.old result
+        out.new length.new }
     ensures unchanged { sketch.new.value ≡ sketch.old.value }
 {
     sketch.owned().image(out, length)

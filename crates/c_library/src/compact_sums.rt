@@ -3,7 +3,8 @@ ghost use Rattle.std.specs.Prelude.{◌≡◌, true, None, option_map, length};
 ghost use Rattle.c_objects.specs.Bounds.{is_state, wide};
 ghost use Rattle.c_objects.specs.Buffer.{WritesOf};
 ghost use Rattle.c_handles.specs.Calls.{Fills, WritesValue};
-ghost use Rattle.c_objects.specs.CompactSums.{IsSumsReadFrom, IsSumsReadRefusal, compact_sums_state, IsCompactSumsImage, compact_total, CopiesEntries};
+ghost use Rattle.c_objects.specs.CompactSums.{IsSumsReadFrom, IsSumsReadRefusal, compact_sums_state};
+ghost use Rattle.c_objects.specs.CompactSums.{IsCompactSumsImage, compact_total, CopiesEntries};
 ghost use Rattle.c_objects.specs.Status.{IsMemoryRefusal};
 
 use c_handles::handles::CompactSumsHandle;
@@ -21,7 +22,8 @@ pub extern "C" fn kcp_compact_sums_read(
     image: &[u8],
     seed: u64,
 ) -> u32
-    ensures { Fills (IsSumsReadFrom image.now seed) (IsSumsReadRefusal image.now seed) sums.old.value result sums.new.value }
+    ensures { Fills (IsSumsReadFrom image.now seed) (IsSumsReadRefusal image.now seed) sums.old.value result
+        sums.new.value }
 {
     sums.owned().read(alloc, image, seed)
 }
@@ -51,14 +53,15 @@ pub extern "C" fn kcp_compact_sums_image(
     out: &mut [u8],
     length: &mut u64,
 ) -> u32
-    ensures image { WritesOf IsCompactSumsImage (λ _. IsMemoryRefusal) sums.old.value out.old length.old result out.new length.new }
+    ensures image { WritesOf IsCompactSumsImage (λ _. IsMemoryRefusal) sums.old.value out.old length.old result
+        out.new length.new }
     ensures unchanged { sums.new.value ≡ sums.old.value }
 {
     sums.owned().image(out, length)
 }
 
-/// Writes the hashes of the sketch and their sums, in the order of the image, to two arrays of `room` numbers each, and
-/// their number to `*count`.
+/// Writes the hashes of the sketch and their sums, in the order of the image, to two arrays of `room` numbers each,
+/// and their number to `*count`.
 ///
 /// If room is less, the status is `TOO_SMALL`, the arrays are as before, and `*count` is the room that is needed.
 #[unsafe(no_mangle)]
@@ -68,7 +71,8 @@ pub extern "C" fn kcp_compact_sums_entries(
     values: &mut [u64],
     count: &mut u64,
 ) -> u32
-    ensures entries { CopiesEntries sums.old.value hashes.old values.old count.old result hashes.new values.new count.new }
+    ensures entries { CopiesEntries sums.old.value hashes.old values.old count.old result hashes.new values.new
+        count.new }
     ensures unchanged { sums.new.value ≡ sums.old.value }
 {
     match sums.owned().get() {

@@ -5,8 +5,8 @@ ghost use Rattle.sketch_base.specs.Seed.{hash_of};
 
 use c_objects::hashes::{hash_of_bytes, hash_of_number};
 
-/// Writes the hash of bytes under a seed, which the update calls insert, of 63 bits: the first half of MurmurHash3 x64
-/// 128 without its lowest bit.
+/// Writes the hash of bytes under a seed, which the update calls insert, of 63 bits: the first half of MurmurHash3
+/// x64 128 without its lowest bit.
 #[unsafe(no_mangle)]
 pub extern "C" fn kcp_hash_bytes(seed: u64, bytes: &[u8]) -> u64
     ensures { result ≡ hash_of seed bytes.now }

@@ -1,7 +1,8 @@
 //! Intersections of theta sketches.
 ghost use Rattle.std.specs.Prelude.{◌≡◌, None};
 ghost use Rattle.c_handles.specs.Calls.{OnObject, OnObjectWith, Fills, FillsFrom};
-ghost use Rattle.c_objects.specs.Intersection.{IsNewIntersection, MeetsShown, IsSeedRefusal, IsIntersectionResult, IsNoResult};
+ghost use Rattle.c_objects.specs.Intersection.{IsNewIntersection, MeetsShown, IsSeedRefusal, IsIntersectionResult};
+ghost use Rattle.c_objects.specs.Intersection.{IsNoResult};
 ghost use Rattle.c_objects.specs.Thetas.{OfSketch, OfCompact, OfImage};
 
 use c_handles::handles::{CompactHandle, IntersectionHandle, ThetaHandle};
@@ -39,7 +40,8 @@ pub extern "C" fn kcp_intersection_add(
     intersection: &mut IntersectionHandle,
     sketch: &mut ThetaHandle,
 ) -> u32
-    ensures met { OnObjectWith (OfSketch MeetsShown) sketch.old.value intersection.old.value result intersection.new.value }
+    ensures met { OnObjectWith (OfSketch MeetsShown) sketch.old.value intersection.old.value result
+        intersection.new.value }
     ensures unchanged { sketch.new.value ≡ sketch.old.value }
 {
     intersection.owned().add(sketch.owned())
@@ -51,24 +53,26 @@ pub extern "C" fn kcp_intersection_add_compact(
     intersection: &mut IntersectionHandle,
     sketch: &mut CompactHandle,
 ) -> u32
-    ensures met { OnObjectWith (OfCompact MeetsShown) sketch.old.value intersection.old.value result intersection.new.value }
+    ensures met { OnObjectWith (OfCompact MeetsShown) sketch.old.value intersection.old.value result
+        intersection.new.value }
     ensures unchanged { sketch.new.value ≡ sketch.old.value }
 {
     intersection.owned().add(sketch.owned())
 }
 
-/// Intersects with the sketch that the bytes begin with, read under the intersection's seed, as `kcp_intersection_add`
-/// does.
+/// Intersects with the sketch that the bytes begin with, read under the intersection's seed, as
+/// `kcp_intersection_add` does.
 ///
-/// Refused with `INVALID_DATA` if the bytes begin with no sketch of this seed, and otherwise as `kcp_intersection_add`
-/// is; nothing has changed then.
+/// Refused with `INVALID_DATA` if the bytes begin with no sketch of this seed, and otherwise as
+/// `kcp_intersection_add` is; nothing has changed then.
 #[unsafe(no_mangle)]
 pub extern "C" fn kcp_intersection_add_image(
     alloc: Global,
     intersection: &mut IntersectionHandle,
     image: &[u8],
 ) -> u32
-    ensures { OnObject (OfImage MeetsShown (λ i. i.seed) image.now) intersection.old.value result intersection.new.value }
+    ensures { OnObject (OfImage MeetsShown (λ i. i.seed) image.now) intersection.old.value result
+        intersection.new.value }
 {
     intersection.owned().add_image(alloc, image)
 }

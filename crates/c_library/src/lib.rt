@@ -12,18 +12,19 @@
 //!
 //! Statuses. A call returns `OK`, or the reason why it was refused; `kc_status_text` has the reason in words. A call
 //! that is refused changes nothing, neither an object nor an output, except where its comment says otherwise.
-//! `INVALID_ARGUMENT` is also the status of a null pointer, and of a handle without an object. A buffer of input may be
-//! null if its count is 0. No call stops the process.
+//! `INVALID_ARGUMENT` is also the status of a null pointer, and of a handle without an object. A buffer of input may
+//! be null if its count is 0. No call stops the process.
 //!
 //! Buffers of output. A call that writes bytes writes their number to `*length`. If the buffer has no room for them,
-//! the status is `TOO_SMALL`, the buffer is as before, and `*length` is the room that is needed. So call with a room of
-//! 0 first (the buffer may then be null), allocate, and call again.
+//! the status is `TOO_SMALL`, the buffer is as before, and `*length` is the room that is needed. So call with a room
+//! of 0 first (the buffer may then be null), allocate, and call again.
 //!
 //! Seeds. Sketches are merged only if their seeds have one seed hash. `DEFAULT_SEED` is the seed that all
-//! implementations of the DataSketches format use if no other is passed. The seed of an empty sketch is never checked.
+//! implementations of the DataSketches format use if no other is passed. The seed of an empty sketch is never
+//! checked.
 //!
-//! Threads. A handle is used by one call at a time, also by calls that take it as const. No two arguments of a call may
-//! overlap, except two buffers of input.
+//! Threads. A handle is used by one call at a time, also by calls that take it as const. No two arguments of a call
+//! may overlap, except two buffers of input.
 //!
 //! # In Rattle
 //!

@@ -8,7 +8,8 @@ use c_objects::strings::update_strings;
 use std::alloc::Global;
 
 /// Updates a sketch with byte strings in their order, each by its hash. They lie one after another in `bytes`, the
-/// first from offset 0, and `ends[i]` is the offset of the end of string i. The call allocates eight bytes per string.
+/// first from offset 0, and `ends[i]` is the offset of the end of string i. The call allocates eight bytes per
+/// string.
 ///
 /// Refused with `INVALID_ARGUMENT` if an end is below the one before it or past the bytes. Refused with
 /// `OUT_OF_MEMORY`; then only the first strings have been inserted, perhaps none, and the same call may be repeated.

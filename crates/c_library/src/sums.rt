@@ -6,7 +6,8 @@ ghost use Rattle.c_objects.specs.Buffer.{WritesOf};
 ghost use Rattle.c_handles.specs.Calls.{OnObject, Fills, FillsFrom, WritesValue};
 ghost use Rattle.c_objects.specs.Settings.{IsSettingsRefusal, IsNewRefusal};
 ghost use Rattle.c_objects.specs.Status.{IsMemoryRefusal};
-ghost use Rattle.c_objects.specs.Sums.{IsNewSums, IsSameSums, AddsValue, AddsAtBytes, AddsAtNumber, TrimsSums, ResetsSums, sums_state, sums_total, IsImageOfSums, IsCompactFormOfSums};
+ghost use Rattle.c_objects.specs.Sums.{IsNewSums, IsSameSums, AddsValue, AddsAtBytes, AddsAtNumber, TrimsSums};
+ghost use Rattle.c_objects.specs.Sums.{ResetsSums, sums_state, sums_total, IsImageOfSums, IsCompactFormOfSums};
 
 use c_handles::handles::{CompactSumsHandle, SumsHandle};
 use c_objects::bounds::Wide;
@@ -35,7 +36,8 @@ pub extern "C" fn kcp_sums_new_with(
     resize_factor: u32,
     starting_theta: u64,
 ) -> u32
-    ensures { Fills (IsNewSums lg_k starting_theta seed) (IsNewRefusal lg_k resize_factor starting_theta seed) sums.old.value result sums.new.value }
+    ensures { Fills (IsNewSums lg_k starting_theta seed) (IsNewRefusal lg_k resize_factor starting_theta seed)
+        sums.old.value result sums.new.value }
 {
     match factor_of(resize_factor) {
         Some(factor) => sums
@@ -62,8 +64,8 @@ pub extern "C" fn kcp_sums_free(alloc: Global, sums: &mut SumsHandle)
     sums.owned().free(alloc);
 }
 
-/// Adds a value to the sum of a hash, which is 0 at first. A hash that is 0 or at least theta is not retained, but the
-/// sketch is nonempty afterwards.
+/// Adds a value to the sum of a hash, which is 0 at first. A hash that is 0 or at least theta is not retained, but
+/// the sketch is nonempty afterwards.
 ///
 /// Refused with `POLICY` if the sum would be 2^64 or more, and with `OUT_OF_MEMORY`, only for a new hash below theta.
 #[unsafe(no_mangle)]
@@ -124,11 +126,12 @@ pub extern "C" fn kcp_sums_state(sums: &mut SumsHandle, out: &mut State) -> u32
     sums.owned().state(out)
 }
 
-/// Writes the image of the sketch's ordered compact form: after each hash the eight bytes of its sum, the lowest first.
-/// Refused with `OUT_OF_MEMORY`.
+/// Writes the image of the sketch's ordered compact form: after each hash the eight bytes of its sum, the lowest
+/// first. Refused with `OUT_OF_MEMORY`.
 #[unsafe(no_mangle)]
 pub extern "C" fn kcp_sums_image(sums: &mut SumsHandle, out: &mut [u8], length: &mut u64) -> u32
-    ensures image { WritesOf IsImageOfSums (λ _. IsMemoryRefusal) sums.old.value out.old length.old result out.new length.new }
+    ensures image { WritesOf IsImageOfSums (λ _. IsMemoryRefusal) sums.old.value out.old length.old result out.new
+        length.new }
     ensures unchanged { sums.new.value ≡ sums.old.value }
 {
     sums.owned().image(out, length)
@@ -141,14 +144,16 @@ pub extern "C" fn kcp_sums_compact(
     sums: &mut SumsHandle,
     out: &mut CompactSumsHandle,
 ) -> u32
-    ensures made { FillsFrom IsCompactFormOfSums (λ _. IsMemoryRefusal) sums.old.value out.old.value result out.new.value }
+    ensures made { FillsFrom IsCompactFormOfSums (λ _. IsMemoryRefusal) sums.old.value out.old.value result
+        out.new.value }
     ensures unchanged { sums.new.value ≡ sums.old.value }
 {
     sums.owned().compact(alloc, out.owned())
 }
 
 /// Writes the total of a sketch, the sum of its sums, below 2^96. The estimate of the total of all values that were
-/// added is this total * `MAX_THETA` / theta (`kc_total`, `kcp_total_decimal`, `kcp_total_rounded`, `kcp_total_text`).
+/// added is this total * `MAX_THETA` / theta (`kc_total`, `kcp_total_decimal`, `kcp_total_rounded`,
+/// `kcp_total_text`).
 #[unsafe(no_mangle)]
 pub extern "C" fn kcp_sums_total(sums: &mut SumsHandle, out: &mut Wide) -> u32
     ensures total { WritesValue (option_map (λ t. wide (sums_total t)) sums.old.value) out.old result out.new }

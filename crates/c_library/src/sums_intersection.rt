@@ -3,21 +3,23 @@ ghost use Rattle.std.specs.Prelude.{◌≡◌, None};
 ghost use Rattle.c_handles.specs.Calls.{OnObject, OnObjectWith, Fills, FillsFrom};
 ghost use Rattle.c_objects.specs.CompactSums.{OfSums, OfCompactSums, OfSumsImage};
 ghost use Rattle.c_objects.specs.Intersection.{IsSeedRefusal};
-ghost use Rattle.c_objects.specs.SumsIntersection.{IsNewSumsIntersection, MeetsShownSums, IsSumsIntersectionResult, IsNoSumsResult};
+ghost use Rattle.c_objects.specs.SumsIntersection.{IsNewSumsIntersection, MeetsShownSums, IsSumsIntersectionResult};
+ghost use Rattle.c_objects.specs.SumsIntersection.{IsNoSumsResult};
 
 use c_handles::handles::{CompactSumsHandle, SumsHandle, SumsIntersectionHandle};
 use c_objects::sums_intersection::built;
 use std::alloc::Global;
 
-/// Makes an intersection, refused as `kcp_intersection_new` is. Its value is that of an intersection of theta sketches,
-/// and beside each hash the sum of the sums of all sketches.
+/// Makes an intersection, refused as `kcp_intersection_new` is. Its value is that of an intersection of theta
+/// sketches, and beside each hash the sum of the sums of all sketches.
 #[unsafe(no_mangle)]
 pub extern "C" fn kcp_sums_intersection_new(
     alloc: Global,
     intersection: &mut SumsIntersectionHandle,
     seed: u64,
 ) -> u32
-    ensures { Fills (IsNewSumsIntersection seed) (IsSeedRefusal seed) intersection.old.value result intersection.new.value }
+    ensures { Fills (IsNewSumsIntersection seed) (IsSeedRefusal seed) intersection.old.value result
+        intersection.new.value }
 {
     intersection.owned().put(alloc, built(alloc, seed))
 }
@@ -42,7 +44,8 @@ pub extern "C" fn kcp_sums_intersection_add(
     intersection: &mut SumsIntersectionHandle,
     sketch: &mut SumsHandle,
 ) -> u32
-    ensures met { OnObjectWith (OfSums MeetsShownSums) sketch.old.value intersection.old.value result intersection.new.value }
+    ensures met { OnObjectWith (OfSums MeetsShownSums) sketch.old.value intersection.old.value result
+        intersection.new.value }
     ensures unchanged { sketch.new.value ≡ sketch.old.value }
 {
     intersection.owned().add(sketch.owned())
@@ -54,21 +57,23 @@ pub extern "C" fn kcp_sums_intersection_add_compact(
     intersection: &mut SumsIntersectionHandle,
     sketch: &mut CompactSumsHandle,
 ) -> u32
-    ensures met { OnObjectWith (OfCompactSums MeetsShownSums) sketch.old.value intersection.old.value result intersection.new.value }
+    ensures met { OnObjectWith (OfCompactSums MeetsShownSums) sketch.old.value intersection.old.value result
+        intersection.new.value }
     ensures unchanged { sketch.new.value ≡ sketch.old.value }
 {
     intersection.owned().add(sketch.owned())
 }
 
-/// Intersects with the sketch that the bytes begin with, as `kcp_intersection_add_image` does. Refused as that call and
-/// `kcp_sums_intersection_add` are.
+/// Intersects with the sketch that the bytes begin with, as `kcp_intersection_add_image` does. Refused as that call
+/// and `kcp_sums_intersection_add` are.
 #[unsafe(no_mangle)]
 pub extern "C" fn kcp_sums_intersection_add_image(
     alloc: Global,
     intersection: &mut SumsIntersectionHandle,
     image: &[u8],
 ) -> u32
-    ensures { OnObject (OfSumsImage MeetsShownSums (λ i. i.seed) image.now) intersection.old.value result intersection.new.value }
+    ensures { OnObject (OfSumsImage MeetsShownSums (λ i. i.seed) image.now) intersection.old.value result
+        intersection.new.value }
 {
     intersection.owned().add_image(alloc, image)
 }
@@ -81,7 +86,8 @@ pub extern "C" fn kcp_sums_intersection_result(
     intersection: &mut SumsIntersectionHandle,
     out: &mut CompactSumsHandle,
 ) -> u32
-    ensures made { FillsFrom IsSumsIntersectionResult IsNoSumsResult intersection.old.value out.old.value result out.new.value }
+    ensures made { FillsFrom IsSumsIntersectionResult IsNoSumsResult intersection.old.value out.old.value result
+        out.new.value }
     ensures unchanged { intersection.new.value ≡ intersection.old.value }
 {
     intersection.owned().compact(alloc, out.owned())

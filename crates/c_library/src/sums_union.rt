@@ -4,7 +4,8 @@ ghost use Rattle.c_objects.specs.Buffer.{WritesOf};
 ghost use Rattle.c_objects.specs.CompactSums.{OfSums, OfCompactSums, OfSumsImage};
 ghost use Rattle.c_handles.specs.Calls.{OnObject, OnObjectWith, Fills, FillsFrom};
 ghost use Rattle.c_objects.specs.Settings.{IsSettingsRefusal};
-ghost use Rattle.c_objects.specs.SumsUnion.{IsNewSumsUnion, AddsShownSums, IsSumsUnionResult, IsSumsUnionImage, IsSumsResultRefusal, ResetsSumsUnion};
+ghost use Rattle.c_objects.specs.SumsUnion.{IsNewSumsUnion, AddsShownSums, IsSumsUnionResult, IsSumsUnionImage};
+ghost use Rattle.c_objects.specs.SumsUnion.{IsSumsResultRefusal, ResetsSumsUnion};
 
 use c_handles::handles::{CompactSumsHandle, SumsHandle, SumsUnionHandle};
 use c_objects::sums_union::built;
@@ -34,8 +35,8 @@ pub extern "C" fn kcp_sums_union_free(alloc: Global, union: &mut SumsUnionHandle
 
 /// Merges a sketch that takes updates into the union, as `kcp_union_add` does.
 ///
-/// Refused as that call is; and with `POLICY` if the sums of one hash are 2^64 or more together, after which the union
-/// has failed until it is reset.
+/// Refused as that call is; and with `POLICY` if the sums of one hash are 2^64 or more together, after which the
+/// union has failed until it is reset.
 #[unsafe(no_mangle)]
 pub extern "C" fn kcp_sums_union_add(union: &mut SumsUnionHandle, sketch: &mut SumsHandle) -> u32
     ensures added { OnObjectWith (OfSums AddsShownSums) sketch.old.value union.old.value result union.new.value }
@@ -90,7 +91,8 @@ pub extern "C" fn kcp_sums_union_image(
     out: &mut [u8],
     length: &mut u64,
 ) -> u32
-    ensures image { WritesOf IsSumsUnionImage IsSumsResultRefusal union.old.value out.old length.old result out.new length.new }
+    ensures image { WritesOf IsSumsUnionImage IsSumsResultRefusal union.old.value out.old length.old result out.new
+        length.new }
     ensures unchanged { union.new.value ≡ union.old.value }
 {
     union.owned().image(out, length)

@@ -9,9 +9,11 @@ use c_objects::status::INVALID_ARGUMENT;
 use c_objects::texts::{end_text, new_text, update_text};
 use std::alloc::Global;
 
-/// Begins a text and puts it into a handle. Its lines are hashed whole, without the LF that ends each, under this seed.
+/// Begins a text and puts it into a handle. Its lines are hashed whole, without the LF that ends each, under this
+/// seed.
 ///
-/// Refused with `INVALID_ARGUMENT` if the handle has a text already, and with `OUT_OF_MEMORY`; then the handle is as before.
+/// Refused with `INVALID_ARGUMENT` if the handle has a text already, and with `OUT_OF_MEMORY`; then the handle is as
+/// before.
 #[unsafe(no_mangle)]
 pub extern "C" fn kcp_text_new(alloc: Global, text: &mut TextHandle, seed: u64) -> u32
     ensures { Fills (IsNewText seed) IsMemoryRefusal text.old.value result text.new.value }
@@ -27,13 +29,14 @@ pub extern "C" fn kcp_text_free(alloc: Global, text: &mut TextHandle)
     text.owned().free(alloc);
 }
 
-/// Updates a sketch with the lines that end in the next piece of a text, each by its hash. A text may be cut into pieces
-/// anywhere, also within a line: the text keeps the state of its open line's hash. Once the text is ended, exactly the lines
-/// of all its pieces have been inserted, as `kcp_theta_update_bytes` inserts each. Other updates may come in between.
+/// Updates a sketch with the lines that end in the next piece of a text, each by its hash. A text may be cut into
+/// pieces anywhere, also within a line: the text keeps the state of its open line's hash. Once the text is ended,
+/// exactly the lines of all its pieces have been inserted, as `kcp_theta_update_bytes` inserts each. Other updates
+/// may come in between.
 ///
-/// Refused with `INVALID_ARGUMENT` if a handle has no object or the text is of another seed than the sketch; then nothing
-/// has changed. Refused with `OUT_OF_MEMORY`; then exactly some first lines of the piece have been inserted, perhaps none, the
-/// text is as before, and the same call may be repeated.
+/// Refused with `INVALID_ARGUMENT` if a handle has no object or the text is of another seed than the sketch; then
+/// nothing has changed. Refused with `OUT_OF_MEMORY`; then exactly some first lines of the piece have been inserted,
+/// perhaps none, the text is as before, and the same call may be repeated.
 #[unsafe(no_mangle)]
 pub extern "C" fn kcp_theta_update_text(
     sketch: &mut ThetaHandle,
@@ -51,8 +54,8 @@ pub extern "C" fn kcp_theta_update_text(
     }
 }
 
-/// Ends a text: updates the sketch with a last line that no LF ends, if it has a byte. The handle is then ready for another
-/// text.
+/// Ends a text: updates the sketch with a last line that no LF ends, if it has a byte. The handle is then ready for
+/// another text.
 ///
 /// Refused with `INVALID_ARGUMENT` if a handle has no object or the text is of another seed than the sketch, and with
 /// `OUT_OF_MEMORY`; then nothing has changed, and the same call may be repeated.

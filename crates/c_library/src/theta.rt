@@ -6,7 +6,8 @@ ghost use Rattle.c_objects.specs.Buffer.{WritesOf};
 ghost use Rattle.c_handles.specs.Calls.{OnObject, Fills, FillsFrom, WritesValue};
 ghost use Rattle.c_objects.specs.Settings.{IsSettingsRefusal, IsNewRefusal};
 ghost use Rattle.c_objects.specs.Status.{IsMemoryRefusal};
-ghost use Rattle.c_objects.specs.Thetas.{IsNewSketch, IsSameSketch, UpdatesHash, UpdatesNumber, UpdatesBytes, UpdatesHashes, Trims, Resets, theta_state, IsImageOf, IsCompactForm};
+ghost use Rattle.c_objects.specs.Thetas.{IsNewSketch, IsSameSketch, UpdatesHash, UpdatesNumber, UpdatesBytes};
+ghost use Rattle.c_objects.specs.Thetas.{UpdatesHashes, Trims, Resets, theta_state, IsImageOf, IsCompactForm};
 
 use c_handles::handles::{CompactHandle, ThetaHandle};
 use c_objects::settings::factor_of;
@@ -18,17 +19,19 @@ use theta_sketches::{MAX_THETA, ResizeFactor};
 
 /// Makes an empty sketch of 2^`lg_k` nominal entries.
 ///
-/// Refused with `INVALID_ARGUMENT` if `lg_k` isn't from 4 to 26 or the hash of the seed is 0, and with `OUT_OF_MEMORY`.
+/// Refused with `INVALID_ARGUMENT` if `lg_k` isn't from 4 to 26 or the hash of the seed is 0, and with
+/// `OUT_OF_MEMORY`.
 #[unsafe(no_mangle)]
 pub extern "C" fn kcp_theta_new(alloc: Global, sketch: &mut ThetaHandle, lg_k: u8, seed: u64) -> u32
-    ensures { Fills (IsNewSketch lg_k MAX_THETA seed) (IsSettingsRefusal lg_k seed) sketch.old.value result sketch.new.value }
+    ensures { Fills (IsNewSketch lg_k MAX_THETA seed) (IsSettingsRefusal lg_k seed) sketch.old.value result
+        sketch.new.value }
 {
     sketch.owned().put(alloc, built(alloc, lg_k, ResizeFactor::X8, MAX_THETA, seed))
 }
 
 /// Makes a sketch whose slots grow by a resize factor, 1, 2, 4 or 8 (`kcp_theta_new` takes 8), and that begins at a
-/// theta from 1 to `MAX_THETA`, also after a reset. With the factor 1 it has all of its slots from the start. No value
-/// depends on the factor.
+/// theta from 1 to `MAX_THETA`, also after a reset. With the factor 1 it has all of its slots from the start. No
+/// value depends on the factor.
 ///
 /// Refused as `kcp_theta_new` is, and with `INVALID_ARGUMENT` if the factor or the theta is out of range.
 #[unsafe(no_mangle)]
@@ -40,7 +43,8 @@ pub extern "C" fn kcp_theta_new_with(
     resize_factor: u32,
     starting_theta: u64,
 ) -> u32
-    ensures { Fills (IsNewSketch lg_k starting_theta seed) (IsNewRefusal lg_k resize_factor starting_theta seed) sketch.old.value result sketch.new.value }
+    ensures { Fills (IsNewSketch lg_k starting_theta seed) (IsNewRefusal lg_k resize_factor starting_theta seed)
+        sketch.old.value result sketch.new.value }
 {
     match factor_of(resize_factor) {
         Some(factor) => sketch
@@ -154,7 +158,8 @@ pub extern "C" fn kcp_theta_state(sketch: &mut ThetaHandle, out: &mut State) -> 
 /// Writes the image of the sketch's ordered compact form, in the DataSketches format. Refused with `OUT_OF_MEMORY`.
 #[unsafe(no_mangle)]
 pub extern "C" fn kcp_theta_image(sketch: &mut ThetaHandle, out: &mut [u8], length: &mut u64) -> u32
-    ensures image { WritesOf IsImageOf (λ _. IsMemoryRefusal) sketch.old.value out.old length.old result out.new length.new }
+    ensures image { WritesOf IsImageOf (λ _. IsMemoryRefusal) sketch.old.value out.old length.old result out.new
+        length.new }
     ensures unchanged { sketch.new.value ≡ sketch.old.value }
 {
     sketch.owned().image(out, length)

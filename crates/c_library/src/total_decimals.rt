@@ -8,8 +8,8 @@ use c_objects::quotients::{put_parts, put_parts_text, put_wide, total_parts, tot
 /// Writes the estimate of the total of all values, total * `MAX_THETA` / theta, rounded down to `places` decimals, as
 /// `kcp_estimate_decimal` writes an estimate; theta is that of the sketch's state.
 ///
-/// Refused with `INVALID_ARGUMENT` if no sketch has such a total and theta (the total isn't below 2^64 * theta) or there
-/// are more decimals.
+/// Refused with `INVALID_ARGUMENT` if no sketch has such a total and theta (the total isn't below 2^64 * theta) or
+/// there are more decimals.
 #[unsafe(no_mangle)]
 pub extern "C" fn kcp_total_decimal(
     total: &Wide,
@@ -19,14 +19,15 @@ pub extern "C" fn kcp_total_decimal(
     decimals: &mut u64,
 ) -> u32
     ensures { WritesParts
-        (parts_of (is_total total.now.low total.now.high theta) (total_fraction total.now.low total.now.high theta) places)
+        (parts_of (is_total total.now.low total.now.high theta) (total_fraction total.now.low total.now.high theta)
+        places)
         whole.old decimals.old result whole.new decimals.new }
 {
     put_parts(total_parts(total, theta, places), whole, decimals)
 }
 
-/// Writes the estimate of the total of all values as text with `places` decimals, rounded down and without a final 0 byte:
-/// at most 59 bytes. Refused as `kcp_total_decimal` is.
+/// Writes the estimate of the total of all values as text with `places` decimals, rounded down and without a final 0
+/// byte: at most 59 bytes. Refused as `kcp_total_decimal` is.
 #[unsafe(no_mangle)]
 pub extern "C" fn kcp_total_text(
     total: &Wide,
@@ -36,7 +37,8 @@ pub extern "C" fn kcp_total_text(
     length: &mut u64,
 ) -> u32
     ensures { WritesText
-        (parts_of (is_total total.now.low total.now.high theta) (total_fraction total.now.low total.now.high theta) places)
+        (parts_of (is_total total.now.low total.now.high theta) (total_fraction total.now.low total.now.high theta)
+        places)
         places text.old length.old result text.new length.new }
 {
     put_parts_text(total_parts(total, theta, places), places, text, length)

@@ -4,14 +4,15 @@ ghost use Rattle.c_objects.specs.Buffer.{WritesOf};
 ghost use Rattle.c_handles.specs.Calls.{OnObject, OnObjectWith, Fills, FillsFrom};
 ghost use Rattle.c_objects.specs.Settings.{IsSettingsRefusal};
 ghost use Rattle.c_objects.specs.Thetas.{OfCompact, OfImage};
-ghost use Rattle.c_objects.specs.Union.{IsNewUnion, AddsShown, AddsUpdatable, IsUnionResult, IsUnionImage, IsResultRefusal, ResetsUnion};
+ghost use Rattle.c_objects.specs.Union.{IsNewUnion, AddsShown, AddsUpdatable, IsUnionResult, IsUnionImage};
+ghost use Rattle.c_objects.specs.Union.{IsResultRefusal, ResetsUnion};
 
 use c_handles::handles::{CompactHandle, ThetaHandle, UnionHandle};
 use c_objects::union::built;
 use std::alloc::Global;
 
-/// Makes a union of 2^`lg_k` nominal entries. Its value has the hashes of all its sketches below their least theta; if
-/// these are more than k = 2^`lg_k`, the k least, and its theta is the (k+1)th.
+/// Makes a union of 2^`lg_k` nominal entries. Its value has the hashes of all its sketches below their least theta;
+/// if these are more than k = 2^`lg_k`, the k least, and its theta is the (k+1)th.
 ///
 /// Refused as `kcp_theta_new` is.
 #[unsafe(no_mangle)]
@@ -52,8 +53,8 @@ pub extern "C" fn kcp_union_add_compact(union: &mut UnionHandle, sketch: &mut Co
 
 /// Merges the sketch that the bytes begin with, read under the union's seed, as `kcp_union_add` does.
 ///
-/// Refused with `INVALID_DATA` if the bytes begin with no sketch of this seed, and otherwise as `kcp_union_add` is; but
-/// if memory runs out while the image is read, nothing has changed.
+/// Refused with `INVALID_DATA` if the bytes begin with no sketch of this seed, and otherwise as `kcp_union_add` is;
+/// but if memory runs out while the image is read, nothing has changed.
 #[unsafe(no_mangle)]
 pub extern "C" fn kcp_union_add_image(alloc: Global, union: &mut UnionHandle, image: &[u8]) -> u32
     ensures { OnObject (OfImage AddsShown (λ u. u.seed) image.now) union.old.value result union.new.value }

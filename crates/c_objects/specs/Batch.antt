@@ -35,7 +35,8 @@ AddsCompact s old status new = ((status ≡ 0) × HasMore old new s.sketch) ⊎ 
 -- 2 or 3, or memory, with 3, and the batch has the same sketches as before
 abbrev pub AddsImage : (image : List ℕ) → (old : SeededBatch) → (status : ℕ) → (new : SeededBatch) → Type 0
 AddsImage image old status new =
-    ((status ≡ 0) × ((s : Compact ℕ) × Reads image (seed_hash old.seed) s × HasMore old new s)) ⊎ (IsReadRefusal image old.seed status × IsSameBatch old new)
+    ((status ≡ 0) × ((s : Compact ℕ) × Reads image (seed_hash old.seed) s × HasMore old new s))
+    ⊎ (IsReadRefusal image old.seed status × IsSameBatch old new)
 
 -- the batch has no sketches
 abbrev pub EmptiesBatch : (old : SeededBatch) → (status : ℕ) → (new : SeededBatch) → Type 0

@@ -12,7 +12,13 @@ IsPut bytes before status after count =
     × (length before < length bytes → (status ≡ 6) × (after ≡ before))
 
 -- an image is put into a buffer; or the call is refused, and the buffer and the count are as before
-abbrev pub Writes : (IsImage : List ℕ → Type 0) → (IsRefused : ℕ → Type 0) → (before : List ℕ) → (count_before status : ℕ) → (after : List ℕ) → (count : ℕ) → Type 0
+abbrev pub Writes : (IsImage : List ℕ → Type 0)
+    → (IsRefused : ℕ → Type 0)
+    → (before : List ℕ)
+    → (count_before status : ℕ)
+    → (after : List ℕ)
+    → (count : ℕ)
+    → Type 0
 Writes IsImage IsRefused before count_before status after count =
     ((image : List ℕ) × IsImage image × IsPut image before status after count) ⊎ (IsRefused status × (after ≡ before) × (count ≡ count_before))
 
@@ -24,6 +30,14 @@ abbrev pub IsImageRefused : Result (Vec ℕ Global) ℕ → (status : ℕ) → T
 IsImageRefused made status = MatchResult made (λ _. ⊥) (λ s. status ≡ s)
 
 -- the image of an object is put into a buffer; a handle without one is refused with 1
-abbrev pub WritesOf : {T : Type 0} → (IsImage : T → List ℕ → Type 0) → (IsRefused : T → ℕ → Type 0) → Option T → (before : List ℕ) → (count_before status : ℕ) → (after : List ℕ) → (count : ℕ) → Type 0
+abbrev pub WritesOf : {T : Type 0}
+    → (IsImage : T → List ℕ → Type 0)
+    → (IsRefused : T → ℕ → Type 0)
+    → Option T
+    → (before : List ℕ)
+    → (count_before status : ℕ)
+    → (after : List ℕ)
+    → (count : ℕ)
+    → Type 0
 WritesOf IsImage IsRefused None before count_before status after count = (status ≡ 1) × (after ≡ before) × (count ≡ count_before)
 WritesOf IsImage IsRefused (Some x) before count_before status after count = Writes (IsImage x) (IsRefused x) before count_before status after count

@@ -39,7 +39,12 @@ compact_total s = sum_of s.sketch.entries
 
 -- hashes and sums of entries were written to the fronts of two arrays, with status 0; if either is too small, both are as
 -- before, with status 6; the number of entries was written in both cases
-abbrev pub PutsEntries : (entries : List (TupleEntry ℕ)) → (hashes_before sums_before : List ℕ) → (status : ℕ) → (hashes sums : List ℕ) → (count : ℕ) → Type 0
+abbrev pub PutsEntries : (entries : List (TupleEntry ℕ))
+    → (hashes_before sums_before : List ℕ)
+    → (status : ℕ)
+    → (hashes sums : List ℕ)
+    → (count : ℕ)
+    → Type 0
 PutsEntries entries hashes_before sums_before status hashes sums count =
     (count ≡ length entries)
     × (length entries ≤ length hashes_before → length entries ≤ length sums_before
@@ -50,23 +55,47 @@ PutsEntries entries hashes_before sums_before status hashes sums count =
     → (status ≡ 6) × (hashes ≡ hashes_before) × (sums ≡ sums_before))
 
 -- the entries of a sketch were put into two arrays; a handle without one is refused with 1, and nothing is written
-abbrev pub CopiesEntries : Option CompactSums → (hashes_before sums_before : List ℕ) → (count_before status : ℕ) → (hashes sums : List ℕ) → (count : ℕ) → Type 0
+abbrev pub CopiesEntries : Option CompactSums
+    → (hashes_before sums_before : List ℕ)
+    → (count_before status : ℕ)
+    → (hashes sums : List ℕ)
+    → (count : ℕ)
+    → Type 0
 CopiesEntries None hashes_before sums_before count_before status hashes sums count =
     (status ≡ 1) × (hashes ≡ hashes_before) × (sums ≡ sums_before) × (count ≡ count_before)
 CopiesEntries (Some s) hashes_before sums_before count_before status hashes sums count =
     PutsEntries s.sketch.entries hashes_before sums_before status hashes sums count
 
 -- a call of an operator on a sketch that takes updates: `Does`, on what the sketch shows and lists
-abbrev pub OfSums : {O : Type 0} → (Does : Shown → List (TupleEntry ℕ) → O → ℕ → O → Type 0) → SeededSums → (old : O) → (status : ℕ) → (new : O) → Type 0
+abbrev pub OfSums : {O : Type 0}
+    → (Does : Shown → List (TupleEntry ℕ) → O → ℕ → O → Type 0)
+    → SeededSums
+    → (old : O)
+    → (status : ℕ)
+    → (new : O)
+    → Type 0
 OfSums Does t old status new = Does (sketch_shows tuple_key (sums_sketch t)) (sums_sketch t).sequence old status new
 
 -- .. on a compact sketch
-abbrev pub OfCompactSums : {O : Type 0} → (Does : Shown → List (TupleEntry ℕ) → O → ℕ → O → Type 0) → CompactSums → (old : O) → (status : ℕ) → (new : O) → Type 0
+abbrev pub OfCompactSums : {O : Type 0}
+    → (Does : Shown → List (TupleEntry ℕ) → O → ℕ → O → Type 0)
+    → CompactSums
+    → (old : O)
+    → (status : ℕ)
+    → (new : O)
+    → Type 0
 OfCompactSums Does s old status new = Does (shown_of tuple_key s.sketch) s.sketch.entries old status new
 
 -- .. on the sketch that bytes begin with, read under the operator's seed; or reading was refused, with 2 or 3, and
 -- nothing has changed
-abbrev pub OfSumsImage : {O : Type 0} → (Does : Shown → List (TupleEntry ℕ) → O → ℕ → O → Type 0) → (seed_in : O → ℕ) → (image : List ℕ) → (old : O) → (status : ℕ) → (new : O) → Type 0
+abbrev pub OfSumsImage : {O : Type 0}
+    → (Does : Shown → List (TupleEntry ℕ) → O → ℕ → O → Type 0)
+    → (seed_in : O → ℕ)
+    → (image : List ℕ)
+    → (old : O)
+    → (status : ℕ)
+    → (new : O)
+    → Type 0
 OfSumsImage Does seed_in image old status new =
     ((s : Compact (TupleEntry ℕ)) × Reads (SpellsNumber 8) image (seed_hash (seed_in old)) s × Does (shown_of tuple_key s) s.entries old status new)
     ⊎ (IsSumsReadRefusal image (seed_in old) status × (new ≡ old))

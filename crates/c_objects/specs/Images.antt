@@ -19,7 +19,9 @@ common_value a b = meet_next hash_key first_hash (Some (meet_next hash_key first
 
 -- the intersection of two compact sketches, ordered
 abbrev pub IsIntersectionOf : (seed : ℕ) → (first second : CompactSketch) → CompactSketch → Type 0
-IsIntersectionOf seed first second s = IsAnswer hash_key (common_value (compact_value hash_key first.sketch) (compact_value hash_key second.sketch)) (seed_hash seed) true s.sketch
+IsIntersectionOf seed first second s =
+    IsAnswer hash_key (common_value (compact_value hash_key first.sketch) (compact_value hash_key second.sketch))
+    (seed_hash seed) true s.sketch
 
 -- a sketch that isn't empty is of another seed
 abbrev pub IsOfAnotherSeed : (seed : ℕ) → CompactSketch → Type 0
@@ -31,9 +33,19 @@ IsIntersectionRefusal seed first second e =
     (e ≡ OutOfMemory) ⊎ ((e ≡ InvalidArgument) × ((seed_hash seed ≡ 0) ⊎ (IsOfAnotherSeed seed first ⊎ IsOfAnotherSeed seed second)))
 
 -- the image of an operation on the sketches that two images begin with
-abbrev pub IsImageOfBoth : (IsResult : CompactSketch → CompactSketch → CompactSketch → Type 0) → (seed : ℕ) → (first second : List ℕ) → (image : List ℕ) → Type 0
+abbrev pub IsImageOfBoth : (IsResult : CompactSketch → CompactSketch → CompactSketch → Type 0)
+    → (seed : ℕ)
+    → (first second : List ℕ)
+    → (image : List ℕ)
+    → Type 0
 IsImageOfBoth IsResult seed first second image =
-    (a : CompactSketch) × (b : CompactSketch) × (s : CompactSketch) × Reads first (seed_hash seed) a.sketch × Reads second (seed_hash seed) b.sketch × IsResult a b s × (image ≡ written s.sketch)
+    (a : CompactSketch)
+    × (b : CompactSketch)
+    × (s : CompactSketch)
+    × Reads first (seed_hash seed) a.sketch
+    × Reads second (seed_hash seed) b.sketch
+    × IsResult a b s
+    × (image ≡ written s.sketch)
 
 -- the refusal of an operation on two images: one of them is read as no sketch of this seed, with 2, or memory, with 3
 abbrev pub IsRefusalOfEither : (seed : ℕ) → (first second : List ℕ) → (status : ℕ) → Type 0

@@ -8,7 +8,8 @@ use Rattle.core_laws.specs.Operators.{meet_next}
 use Rattle.core_laws.specs.Shown.{Shown, shown_value}
 use Rattle.core_laws.specs.Values.{Sketch}
 use Rattle.core_operators.specs.ANotB.{IsHashDifference, difference_refusal}
-use Rattle.core_operators.specs.Intersection.{new_intersection, seed_refusal, intersect_refusal, IsAnswerIfAny, IsHashIntersectError}
+use Rattle.core_operators.specs.Intersection.{new_intersection, seed_refusal, intersect_refusal, IsAnswerIfAny}
+use Rattle.core_operators.specs.Intersection.{IsHashIntersectError}
 use Rattle.c_objects.specs.Status.{status_of, IsRefusal}
 use Rattle.c_objects.specs.declared.compact.CompactSketch.{CompactSketch}
 use Rattle.c_objects.specs.declared.intersection.SeededIntersection.{SeededIntersection}
@@ -32,7 +33,10 @@ Meets shown listing old new =
 abbrev pub MeetsShown : Shown → (listing : List ℕ) → (old : SeededIntersection) → (status : ℕ) → (new : SeededIntersection) → Type 0
 MeetsShown shown listing old status new =
     (new.seed ≡ old.seed)
-    × (((status ≡ 0) × Meets shown listing old new) ⊎ ((e : ErrorKind) × (status ≡ status_of e) × IsHashIntersectError old.intersection new.intersection shown e))
+    × (((status ≡ 0) × Meets shown listing old new)
+    ⊎ ((e : ErrorKind)
+    × (status ≡ status_of e)
+    × IsHashIntersectError old.intersection new.intersection shown e))
 
 -- the intersection's value as an ordered compact sketch
 abbrev pub IsIntersectionResult : SeededIntersection → CompactSketch → Type 0
@@ -47,7 +51,9 @@ IsNoResult i status = IsNoValue i.intersection.result status
 
 -- the difference of two compact sketches, ordered
 abbrev pub IsDifferenceOf : (first second : CompactSketch) → CompactSketch → Type 0
-IsDifferenceOf first second s = IsHashDifference (shown_of hash_key first.sketch) first.sketch.entries (shown_of hash_key second.sketch) second.sketch.entries true s.sketch
+IsDifferenceOf first second s =
+    IsHashDifference (shown_of hash_key first.sketch) first.sketch.entries (shown_of hash_key second.sketch)
+    second.sketch.entries true s.sketch
 
 -- the refusal of a difference of sketches that show this: a seed whose hash is 0, sketches of another seed, or memory
 abbrev pub RefusesDifference : (seed : ℕ) → (first second : Shown) → (status : ℕ) → Type 0

@@ -49,7 +49,10 @@ abbrev pub AddsValue : (hash value : ℕ) → (old : SeededSums) → (status : �
 AddsValue hash value old status new =
     (new.seed ≡ old.seed)
     × (status ≡ 0 → AcceptsValue hash value (sums_sketch old) (sums_sketch new))
-    × (status ≢ 0 → RefusesValue hash value (sums_sketch old) status × ((sums_sketch new).empty ≡ (sums_sketch old).empty) × ((sums_sketch new).map ≡ (sums_sketch old).map))
+    × (status ≢ 0
+    → RefusesValue hash value (sums_sketch old) status
+    × ((sums_sketch new).empty ≡ (sums_sketch old).empty)
+    × ((sums_sketch new).map ≡ (sums_sketch old).map))
 
 -- a value was added to the sum of a number, by the hash of its eight bytes, the lowest first
 abbrev pub AddsAtNumber : (number value : ℕ) → (old : SeededSums) → (status : ℕ) → (new : SeededSums) → Type 0
@@ -65,11 +68,18 @@ TrimsSums old status new =
     (new.seed ≡ old.seed)
     × ((sums_sketch new).empty ≡ (sums_sketch old).empty)
     × (status ≡ 0 → (sums_sketch new).map ≡ trimmed_table tuple_key (sums_sketch old).map)
-    × (status ≢ 0 → (status ≡ 3) × ((sums_sketch new).map ≡ (sums_sketch old).map) × IsTrue (nat_lt (2 ^ (sums_sketch old).map.lg_nom) (length (sums_sketch old).map.kept.entries)))
+    × (status ≢ 0
+    → (status ≡ 3)
+    × ((sums_sketch new).map ≡ (sums_sketch old).map)
+    × IsTrue (nat_lt (2 ^ (sums_sketch old).map.lg_nom) (length (sums_sketch old).map.kept.entries)))
 
 -- the sketch is empty again, as when it was new
 abbrev pub ResetsSums : (old : SeededSums) → (status : ℕ) → (new : SeededSums) → Type 0
-ResetsSums old status new = (status ≡ 0) × (new.seed ≡ old.seed) × ((sums_sketch new).empty ≡ true) × ((sums_sketch new).map ≡ after_reset (sums_sketch old).map)
+ResetsSums old status new =
+    (status ≡ 0)
+    × (new.seed ≡ old.seed)
+    × ((sums_sketch new).empty ≡ true)
+    × ((sums_sketch new).map ≡ after_reset (sums_sketch old).map)
 
 -- the state of a sketch
 abbrev pub sums_state : SeededSums → State
@@ -77,7 +87,10 @@ sums_state t = value_state (sums_sketch t).empty (sketch_value (sums_sketch t))
 
 -- the image of the ordered compact form of a sketch: after each hash its sum's eight bytes, the lowest first
 abbrev pub IsImageOfSums : SeededSums → List ℕ → Type 0
-IsImageOfSums t image = (s : Compact (TupleEntry ℕ)) × (image ≡ written (λ sum. to_le_bytes w64 sum) s) × IsAnswer tuple_key (sketch_value (sums_sketch t)) (sums_sketch t).map.seed_hash true s
+IsImageOfSums t image =
+    (s : Compact (TupleEntry ℕ))
+    × (image ≡ written (λ sum. to_le_bytes w64 sum) s)
+    × IsAnswer tuple_key (sketch_value (sums_sketch t)) (sums_sketch t).map.seed_hash true s
 
 -- the ordered compact form of a sketch
 abbrev pub IsCompactFormOfSums : SeededSums → CompactSums → Type 0

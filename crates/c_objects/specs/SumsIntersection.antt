@@ -5,7 +5,8 @@ use Rattle.sketch_base.specs.declared.error.ErrorKind.{ErrorKind}
 use Rattle.core_compact.specs.CompactState.{shown_of}
 use Rattle.core_laws.specs.Shown.{Shown}
 use Rattle.core_operators.specs.ANotB.{IsDifference}
-use Rattle.core_operators.specs.Intersection.{Intersection, new_intersection, intersect_refusal, IsAnswerIfAny, IsMet, IsIntersectError}
+use Rattle.core_operators.specs.Intersection.{Intersection, new_intersection, intersect_refusal, IsAnswerIfAny}
+use Rattle.core_operators.specs.Intersection.{IsMet, IsIntersectError}
 use Rattle.core_policies.specs.Summaries.{combined, combine_refused}
 use Rattle.core_policies.specs.Sums.{unsigned_sum}
 use Rattle.core_policies.specs.declared.default_union.DefaultUnionPolicy.{DefaultUnionPolicy}
@@ -34,7 +35,11 @@ MeetsSums shown listing old new =
 
 -- the error of an intersection, which is unchanged: a sketch of another seed, memory, or two sums of one hash below the lesser
 -- theta that are 2^64 or more together
-abbrev pub IsSumsMeetError : Shown → (listing : List (TupleEntry ℕ)) → (old new : Intersection (TupleEntry ℕ) (DefaultUnionPolicy ℕ)) → ErrorKind → Type 0
+abbrev pub IsSumsMeetError : Shown
+    → (listing : List (TupleEntry ℕ))
+    → (old new : Intersection (TupleEntry ℕ) (DefaultUnionPolicy ℕ))
+    → ErrorKind
+    → Type 0
 IsSumsMeetError shown listing old new e = IsIntersectError tuple_key (combine_refused (unsigned_sum 64)) old new shown listing e
 
 -- a sketch was intersected, with status 0; or it was refused, with 1 for another seed, with 3 for memory and with 4 for a sum of

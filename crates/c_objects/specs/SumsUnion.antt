@@ -6,7 +6,8 @@ use Rattle.sketch_base.specs.declared.error.ErrorKind.{ErrorKind}
 use Rattle.core_compact.specs.CompactState.{Compact, IsAnswer}
 use Rattle.core_laws.specs.Shown.{Shown}
 use Rattle.core_laws.specs.declared.TheConstants.{MAX_THETA}
-use Rattle.core_operators.specs.Union.{Union, empty_union, union_value, update_refusal, failure, JoinsSummaries, UnitesSummaries, IsUpdateError}
+use Rattle.core_operators.specs.Union.{Union, empty_union, union_value, update_refusal, failure, JoinsSummaries}
+use Rattle.core_operators.specs.Union.{UnitesSummaries, IsUpdateError}
 use Rattle.core_policies.specs.Summaries.{combine_refused}
 use Rattle.core_policies.specs.Sums.{unsigned_sum}
 use Rattle.core_policies.specs.declared.default_union.DefaultUnionPolicy.{DefaultUnionPolicy}

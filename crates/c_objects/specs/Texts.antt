@@ -19,12 +19,19 @@ RefusesText old_text old status new_text new = (old_text.hashing.seed ≢ old.se
 -- The lines that end in a piece of a text were inserted, with status 0: if those of the pieces before were inserted since the
 -- sketch was in the state `start`, all of the longer text are, but for its open line. Or memory was refused, with 3: exactly
 -- some first lines of the piece were inserted, and the text is as before the piece.
-abbrev pub UpdatesText : (piece : List ℕ) → (old_text : OpenText) → (old : SeededSketch) → (status : ℕ) → (new_text : OpenText) → (new : SeededSketch) → Type 0
+abbrev pub UpdatesText : (piece : List ℕ)
+    → (old_text : OpenText)
+    → (old : SeededSketch)
+    → (status : ℕ)
+    → (new_text : OpenText)
+    → (new : SeededSketch)
+    → Type 0
 UpdatesText piece old_text old status new_text new =
     RefusesText old_text old status new_text new
     ⊎ ((new.seed ≡ old.seed)
     × (new_text.hashing ≡ old_text.hashing)
-    × (((status ≡ 0) × ((start : LineState) (text : List ℕ) → HasInserted start text (line_state old.sketch) old_text → HasInserted start (text ++ piece) (line_state new.sketch) new_text))
+    × (((status ≡ 0) × ((start : LineState) (text : List ℕ)
+    → HasInserted start text (line_state old.sketch) old_text → HasInserted start (text ++ piece) (line_state new.sketch) new_text))
     ⊎ ((status ≡ 3) × (new_text ≡ old_text) × StopsInPiece piece (line_state old.sketch) (line_state new.sketch) old_text)))
 
 -- A text was ended, with status 0: the sketch is as after the lines of the whole text, in their order, since the state
@@ -34,5 +41,6 @@ EndsText old_text old status new_text new =
     RefusesText old_text old status new_text new
     ⊎ ((new.seed ≡ old.seed)
     × (((status ≡ 0) × IsAtStart old_text.hashing new_text
-    × ((start : LineState) (text : List ℕ) → HasInserted start text (line_state old.sketch) old_text → line_state new.sketch ≡ with_lines old_text.hashing start (lines_of text)))
+    × ((start : LineState) (text : List ℕ) → HasInserted start text (line_state old.sketch) old_text
+    → line_state new.sketch ≡ with_lines old_text.hashing start (lines_of text)))
     ⊎ ((status ≡ 3) × (new_text ≡ old_text) × (line_state new.sketch ≡ line_state old.sketch))))

@@ -1,5 +1,6 @@
 -- Calls on theta sketches: by the sketch before, the arguments, the status and the sketch after.
-use Rattle.std.specs.Prelude.{◌≡◌, ◌≢◌, ◌⊎◌, ◌^◌, ◌==◌, ◌&&◌, ℕ, Bool, List, [], ◌∷◌, length, true, false, nat_lt, if◌then◌else◌, IsTrue}
+use Rattle.std.specs.Prelude.{◌≡◌, ◌≢◌, ◌⊎◌, ◌^◌, ◌==◌, ◌&&◌, ℕ, Bool, List, [], ◌∷◌, length, true, false, nat_lt}
+use Rattle.std.specs.Prelude.{if◌then◌else◌, IsTrue}
 use Rattle.std.specs.Int.{w64, to_le_bytes}
 use Rattle.sketch_base.specs.Seed.{hash_of, seed_hash}
 use Rattle.core_compact.specs.CompactState.{Compact, IsAnswer, shown_of}
@@ -8,7 +9,8 @@ use Rattle.core_laws.specs.Parts.{StopsAt}
 use Rattle.core_laws.specs.Shown.{Shown}
 use Rattle.core_laws.specs.Values.{Sketch, theta_of, count_of}
 use Rattle.core_state.specs.Updatable.{sketch_value, sketch_shows, StopsUpdates}
-use Rattle.core_table.specs.HashTable.{empty_table, after_hash, after_hashes, after_reset, hash_allocates, trimmed_table}
+use Rattle.core_table.specs.HashTable.{empty_table, after_hash, after_hashes, after_reset, hash_allocates}
+use Rattle.core_table.specs.HashTable.{trimmed_table}
 use Rattle.theta_sketches.specs.Image.{Reads, IsReadable, written}
 use Rattle.theta_sketches.specs.Streams.{IsSketchOf, GivesMore, GivesNothing}
 use Rattle.c_objects.specs.Status.{IsUnreadStatus}
@@ -33,7 +35,11 @@ abbrev pub UpdatesHash : (hash : ℕ) → (old : SeededSketch) → (status : ℕ
 UpdatesHash hash old status new =
     (new.seed ≡ old.seed)
     × (status ≡ 0 → (new.sketch.empty ≡ false) × (new.sketch.map ≡ after_hash hash old.sketch.map))
-    × (status ≢ 0 → (status ≡ 3) × (new.sketch.empty ≡ old.sketch.empty) × (new.sketch.map ≡ old.sketch.map) × IsTrue (hash_allocates hash old.sketch.map.kept))
+    × (status ≢ 0
+    → (status ≡ 3)
+    × (new.sketch.empty ≡ old.sketch.empty)
+    × (new.sketch.map ≡ old.sketch.map)
+    × IsTrue (hash_allocates hash old.sketch.map.kept))
     × GivesHashes (hash ∷ []) old.sketch status new.sketch
 
 -- a number of 64 bits was inserted by the hash of its eight bytes, the lowest first
@@ -60,7 +66,10 @@ Trims old status new =
     (new.seed ≡ old.seed)
     × (new.sketch.empty ≡ old.sketch.empty)
     × (status ≡ 0 → new.sketch.map ≡ trimmed_table hash_key old.sketch.map)
-    × (status ≢ 0 → (status ≡ 3) × (new.sketch.map ≡ old.sketch.map) × IsTrue (nat_lt (2 ^ old.sketch.map.lg_nom) (length old.sketch.map.kept.entries)))
+    × (status ≢ 0
+    → (status ≡ 3)
+    × (new.sketch.map ≡ old.sketch.map)
+    × IsTrue (nat_lt (2 ^ old.sketch.map.lg_nom) (length old.sketch.map.kept.entries)))
     × (status ≡ 0 → GivesTrimmed old.sketch new.sketch)
     × (status ≢ 0 → GivesNothing old.sketch new.sketch)
 
@@ -95,7 +104,11 @@ IsCopy old new = new ≡ old
 -- the image of the ordered compact form of a sketch, which is read as that form alone
 abbrev pub IsImageOf : SeededSketch → List ℕ → Type 0
 IsImageOf t image =
-    (s : Compact ℕ) × (image ≡ written s) × IsAnswer hash_key (sketch_value t.sketch) t.sketch.map.seed_hash true s × HasSketch t.sketch s × IsReadAs image s
+    (s : Compact ℕ)
+    × (image ≡ written s)
+    × IsAnswer hash_key (sketch_value t.sketch) t.sketch.map.seed_hash true s
+    × HasSketch t.sketch s
+    × IsReadAs image s
 
 -- the ordered compact form of a sketch
 abbrev pub IsCompactForm : SeededSketch → CompactSketch → Type 0
@@ -112,7 +125,8 @@ IsReadRefusal bytes seed status = IsUnreadStatus (IsReadable bytes (seed_hash se
 -- the state of the sketch that bytes begin with was written, with status 0; or reading was refused, and nothing is written
 abbrev pub ReadsImageState : (bytes : List ℕ) → (seed : ℕ) → (before : State) → (status : ℕ) → (after : State) → Type 0
 ReadsImageState bytes seed before status after =
-    ((status ≡ 0) × ((s : CompactSketch) × IsReadFrom bytes seed s × (after ≡ compact_state s))) ⊎ (IsReadRefusal bytes seed status × (after ≡ before))
+    ((status ≡ 0) × ((s : CompactSketch) × IsReadFrom bytes seed s × (after ≡ compact_state s)))
+    ⊎ (IsReadRefusal bytes seed status × (after ≡ before))
 
 -- a call of an operator on a sketch that takes updates: `Does`, on what the sketch shows and lists
 abbrev pub OfSketch : {O : Type 0} → (Does : Shown → List ℕ → O → ℕ → O → Type 0) → SeededSketch → (old : O) → (status : ℕ) → (new : O) → Type 0
@@ -124,7 +138,14 @@ OfCompact Does s old status new = Does (shown_of hash_key s.sketch) s.sketch.ent
 
 -- .. on the sketch that bytes begin with, read under the operator's seed; or reading was refused, with 2 or 3, and
 -- nothing has changed
-abbrev pub OfImage : {O : Type 0} → (Does : Shown → List ℕ → O → ℕ → O → Type 0) → (seed_in : O → ℕ) → (image : List ℕ) → (old : O) → (status : ℕ) → (new : O) → Type 0
+abbrev pub OfImage : {O : Type 0}
+    → (Does : Shown → List ℕ → O → ℕ → O → Type 0)
+    → (seed_in : O → ℕ)
+    → (image : List ℕ)
+    → (old : O)
+    → (status : ℕ)
+    → (new : O)
+    → Type 0
 OfImage Does seed_in image old status new =
     ((s : Compact ℕ) × Reads image (seed_hash (seed_in old)) s × Does (shown_of hash_key s) s.entries old status new)
     ⊎ (IsReadRefusal image (seed_in old) status × (new ≡ old))

@@ -6,7 +6,9 @@ use Rattle.core_compact.specs.CompactState.{Compact, IsAnswer, shown_of}
 use Rattle.core_laws.specs.Entries.{hash_key}
 use Rattle.core_laws.specs.Shown.{Shown, shown_value}
 use Rattle.core_laws.specs.declared.TheConstants.{MAX_THETA}
-use Rattle.core_operators.specs.Union.{empty_union, union_value, update_refusal, failure, JoinsHashes, UnitesHashes, IsHashUpdateError, all_empty, update_all_refusal, JoinsAllHashes, UnitesAllHashes, IsHashUpdateAllError}
+use Rattle.core_operators.specs.Union.{empty_union, union_value, update_refusal, failure, JoinsHashes, UnitesHashes}
+use Rattle.core_operators.specs.Union.{IsHashUpdateError, all_empty, update_all_refusal, JoinsAllHashes}
+use Rattle.core_operators.specs.Union.{UnitesAllHashes, IsHashUpdateAllError}
 use Rattle.theta_sketches.specs.Image.{written}
 use Rattle.c_objects.specs.Status.{status_of, IsRefusal}
 use Rattle.c_objects.specs.Streams.{IsUnionOfNone, GivesPart, GivesSketch, GivesParts, HasUnion, IsReadAs}

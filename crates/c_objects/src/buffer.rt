@@ -3,8 +3,8 @@ ghost use Rattle.c_objects.specs.Buffer.{IsPut, Writes, IsImageMade, IsImageRefu
 
 use crate::status::{OK, TOO_SMALL};
 
-/// Copies bytes to the front of a buffer if it has room for them, and writes how many they are. The status is `OK`, or
-/// `TOO_SMALL` if they don't fit.
+/// Copies bytes to the front of a buffer if it has room for them, and writes how many they are. The status is `OK`,
+/// or `TOO_SMALL` if they don't fit.
 pub fn put(bytes: &[u8], out: &mut [u8], length: &mut u64) -> u32
     ensures { IsPut bytes.now out.old result out.new length.new }
 {

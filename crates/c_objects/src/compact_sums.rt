@@ -3,7 +3,8 @@ ghost use Rattle.std.specs.Prelude.{◌≡◌, ◌≤◌, ◌++◌, None, length
 ghost use Rattle.core_slots.specs.Entry.{tuple_key};
 ghost use Rattle.c_objects.specs.Status.{IsMemoryRefusal};
 ghost use Rattle.c_objects.specs.SumsIntersection.{IsDifferenceOfSums, AreSumsOfSeed, IsSumsDifferenceRefusal};
-ghost use Rattle.c_objects.specs.CompactSums.{IsCompactSumsImage, IsSumsReadFrom, IsSumsReadRefusal, compact_sums_state, compact_total, PutsEntries};
+ghost use Rattle.c_objects.specs.CompactSums.{IsCompactSumsImage, IsSumsReadFrom, IsSumsReadRefusal};
+ghost use Rattle.c_objects.specs.CompactSums.{compact_sums_state, compact_total, PutsEntries};
 ghost use Rattle.c_objects.specs.declared.compact_sums.CompactSums.{CompactSums};
 
 use crate::bounds::{Wide, split};
@@ -116,8 +117,8 @@ fn copy_entries(entries: &[TupleEntry<u64>], hashes: &mut [u64], sums: &mut [u64
     }
 }
 
-/// Copies the hashes and the sums of a sketch to the fronts of two arrays, and writes how many they are. The status is `OK`, or
-/// `TOO_SMALL` if an array has no room for them.
+/// Copies the hashes and the sums of a sketch to the fronts of two arrays, and writes how many they are. The status
+/// is `OK`, or `TOO_SMALL` if an array has no room for them.
 pub fn put_entries(
     sketch: &CompactSums,
     hashes: &mut [u64],

@@ -33,8 +33,8 @@ pub fn read_both(
     }
 }
 
-/// The hashes that two sketches have in common. Refused with `InvalidArgument` only for a seed whose seed hash is 0 or a
-/// sketch of another seed that isn't empty, and with `OutOfMemory`.
+/// The hashes that two sketches have in common. Refused with `InvalidArgument` only for a seed whose seed hash is 0
+/// or a sketch of another seed that isn't empty, and with `OutOfMemory`.
 pub fn intersected(
     alloc: Global,
     seed: u64,

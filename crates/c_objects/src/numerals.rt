@@ -46,8 +46,8 @@ pub fn put_number(number: u128, out: &mut [u8], length: &mut u64) -> u32
     put(&text[start..], out, length)
 }
 
-/// Writes the decimals of a number to the end of a text, behind a point, or nothing if there are none. Returns the place
-/// of the point.
+/// Writes the decimals of a number to the end of a text, behind a point, or nothing if there are none. Returns the
+/// place of the point.
 fn put_point(decimals: u64, places: u32, text: &mut [u8; ROOM]) -> usize
     requires limited { places ≤ 19 }
     ensures start { result + length (after_point decimals places) ≡ 64 }

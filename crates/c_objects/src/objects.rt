@@ -1,4 +1,5 @@
-//! What C does with objects of several kinds, each as one trait: its ghost members say what the call means for the kind.
+//! What C does with objects of several kinds, each as one trait: its ghost members say what the call means for the
+//! kind.
 ghost use Rattle.std.specs.Prelude.{◌≡◌, true, IfOk, OnOk, IfErr};
 ghost use Rattle.c_objects.specs.Bounds.{is_state, wide};
 
@@ -59,8 +60,8 @@ pub trait HasCompact {
 
     ghost no_compact: { Self → ℕ → Type 0 };
 
-    /// The compact sketch of the object, ordered, or the status of the refusal. Memory to keep the sketch may still be
-    /// refused, so status 3 is among those of this call even if it succeeds (clause `room`).
+    /// The compact sketch of the object, ordered, or the status of the refusal. Memory to keep the sketch may still
+    /// be refused, so status 3 is among those of this call even if it succeeds (clause `room`).
     fn compact(&self) -> Result<Self::Compact, u32>
         ensures made { IfOk result (is_compact self.now) }
         ensures refused { IfErr result (no_compact self.now) }
@@ -82,8 +83,8 @@ pub trait CanCopy: Drop {
 pub trait HasDifference: Drop {
     ghost use Rattle.std.specs.Prelude.{ℕ};
 
-    /// Whether a sketch is the difference of two, whether those two are of a seed as far as a difference checks that, and
-    /// whether a status is that of a refusal.
+    /// Whether a sketch is the difference of two, whether those two are of a seed as far as a difference checks that,
+    /// and whether a status is that of a refusal.
     ghost is_difference: { Self → Self → Self → Type 0 };
 
     ghost are_of_seed: { ℕ → Self → Self → Type 0 };
@@ -156,8 +157,8 @@ pub trait FromImage: Drop {
 
     ghost is_unread: { List ℕ → ℕ → ℕ → Type 0 };
 
-    /// The sketch that bytes begin with, read under a seed, or the status of the refusal: 2 if the bytes are read as no
-    /// sketch, 3 if memory was refused. Memory to keep the sketch may still be refused (clause `room`).
+    /// The sketch that bytes begin with, read under a seed, or the status of the refusal: 2 if the bytes are read as
+    /// no sketch, 3 if memory was refused. Memory to keep the sketch may still be refused (clause `room`).
     fn read(alloc: Global, image: &[u8], seed: u64) -> Result<Self, u32>
         ensures read { IfOk result (is_read image.now seed) }
         ensures refused { IfErr result (is_unread image.now seed) }

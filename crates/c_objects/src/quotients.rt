@@ -28,10 +28,12 @@ pub fn estimate_parts(retained: u64, theta: u64, places: u32) -> Option<(u128, u
     Some((whole, decimals))
 }
 
-/// The estimate of the total of all values with `places` decimals, likewise. `None` if theta isn't from 1 to `MAX_THETA`,
-/// the total isn't below 2^64 times theta (that of every sketch is), or there are more than 19 decimals.
+/// The estimate of the total of all values with `places` decimals, likewise. `None` if theta isn't from 1 to
+/// `MAX_THETA`, the total isn't below 2^64 times theta (that of every sketch is), or there are more than 19 decimals.
 pub fn total_parts(total: &Wide, theta: u64, places: u32) -> Option<(u128, u64)>
-    ensures parts { result ≡ parts_of (is_total total.now.low total.now.high theta) (total_fraction total.now.low total.now.high theta) places }
+    ensures parts { result
+        ≡ parts_of (is_total total.now.low total.now.high theta) (total_fraction total.now.low total.now.high theta)
+        places }
     ensures limited { IsSome result → places ≤ MAX_PLACES }
 {
     if theta <= total.high || MAX_THETA < theta || MAX_PLACES < places {
@@ -57,10 +59,12 @@ pub fn estimate_rounded(retained: u64, theta: u64) -> Option<u128>
     Some((2 * over + under) / (2 * under))
 }
 
-/// The nearest whole number to the estimate of the total of all values; a half is rounded up. `None` if theta isn't from
-/// 1 to `MAX_THETA` or the total isn't below 2^64 times theta.
+/// The nearest whole number to the estimate of the total of all values; a half is rounded up. `None` if theta isn't
+/// from 1 to `MAX_THETA` or the total isn't below 2^64 times theta.
 pub fn total_rounded(total: &Wide, theta: u64) -> Option<u128>
-    ensures { result ≡ rounded_of (is_total total.now.low total.now.high theta) (total_fraction total.now.low total.now.high theta) }
+    ensures { result
+        ≡ rounded_of (is_total total.now.low total.now.high theta)
+        (total_fraction total.now.low total.now.high theta) }
 {
     if theta <= total.high || MAX_THETA < theta {
         return None;

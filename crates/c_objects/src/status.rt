@@ -1,5 +1,5 @@
-//! Statuses: 0 if a call did what it promises, and otherwise the reason why it did not. The header of C has their numbers and
-//! these comments (`bindings/c/make_calls.py`).
+//! Statuses: 0 if a call did what it promises, and otherwise the reason why it did not. The header of C has their
+//! numbers and these comments (`bindings/c/make_calls.py`).
 ghost use Rattle.std.specs.Prelude.{◌≡◌, ◌≢◌, ◌≤◌};
 ghost use Rattle.c_objects.specs.Status.{status_of};
 

@@ -3,7 +3,8 @@ ghost use Rattle.std.specs.Prelude.{true, IfOk};
 ghost use Rattle.core_laws.specs.Refusal.{Refuses};
 ghost use Rattle.core_laws.specs.Settings.{settings_refusal};
 ghost use Rattle.c_objects.specs.Status.{IsMemoryRefusal};
-ghost use Rattle.c_objects.specs.Sums.{IsNewSums, IsSameSums, AddsValue, AddsAtBytes, AddsAtNumber, TrimsSums, ResetsSums, sums_state, sums_total, IsImageOfSums, IsCompactFormOfSums};
+ghost use Rattle.c_objects.specs.Sums.{IsNewSums, IsSameSums, AddsValue, AddsAtBytes, AddsAtNumber, TrimsSums};
+ghost use Rattle.c_objects.specs.Sums.{ResetsSums, sums_state, sums_total, IsImageOfSums, IsCompactFormOfSums};
 ghost use Rattle.c_objects.specs.declared.sums.SeededSums.{SeededSums};
 
 use crate::bounds::{Wide, split};
@@ -24,9 +25,9 @@ pub struct SeededSums {
     seed: u64,
 }
 
-/// A new sketch of 2^`lg_k` nominal entries, `lg_k` from 4 to 26, whose slots grow by a resize factor and which begins at a
-/// theta from 1 to `MAX_THETA`. Refused with `InvalidArgument` if a setting is out of range or the hash of the seed is 0,
-/// and with `OutOfMemory`.
+/// A new sketch of 2^`lg_k` nominal entries, `lg_k` from 4 to 26, whose slots grow by a resize factor and which
+/// begins at a theta from 1 to `MAX_THETA`. Refused with `InvalidArgument` if a setting is out of range or the hash
+/// of the seed is 0, and with `OutOfMemory`.
 pub fn built(
     alloc: Global,
     lg_k: u8,
@@ -46,8 +47,8 @@ pub fn built(
     Ok(SeededSums { sketch, seed })
 }
 
-/// Adds a value to the sum of a hash, which is 0 at first. The status is `OK`, `POLICY` if the sum would be 2^64 or more, or
-/// `OUT_OF_MEMORY` for a new hash below theta.
+/// Adds a value to the sum of a hash, which is 0 at first. The status is `OK`, `POLICY` if the sum would be 2^64 or
+/// more, or `OUT_OF_MEMORY` for a new hash below theta.
 #[inline(always)]
 pub fn add_at_hash(sums: &mut SeededSums, hash: u64, value: u64) -> u32
     ensures { AddsValue hash value sums.old result sums.new }
@@ -58,7 +59,8 @@ pub fn add_at_hash(sums: &mut SeededSums, hash: u64, value: u64) -> u32
     }
 }
 
-/// Adds a value to the sum of a number, by the hash of its eight bytes, the lowest first. Refused as `add_at_hash` is.
+/// Adds a value to the sum of a number, by the hash of its eight bytes, the lowest first. Refused as `add_at_hash`
+/// is.
 #[inline(always)]
 pub fn add_at_number(sums: &mut SeededSums, number: u64, value: u64) -> u32
     ensures { AddsAtNumber number value sums.old result sums.new }

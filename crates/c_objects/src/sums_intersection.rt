@@ -5,7 +5,8 @@ ghost use Rattle.core_operators.specs.Intersection.{seed_refusal};
 ghost use Rattle.core_slots.specs.Entry.{tuple_key};
 ghost use Rattle.core_state.specs.View.{shows, sequence};
 ghost use Rattle.c_objects.specs.CompactSums.{OfSums, OfCompactSums, OfSumsImage};
-ghost use Rattle.c_objects.specs.SumsIntersection.{IsNewSumsIntersection, MeetsShownSums, IsSumsIntersectionResult, IsNoSumsResult};
+ghost use Rattle.c_objects.specs.SumsIntersection.{IsNewSumsIntersection, MeetsShownSums, IsSumsIntersectionResult};
+ghost use Rattle.c_objects.specs.SumsIntersection.{IsNoSumsResult};
 ghost use Rattle.c_objects.specs.declared.sums_intersection.SeededSumsIntersection.{SeededSumsIntersection};
 
 use crate::compact_sums::CompactSums;
@@ -23,7 +24,8 @@ pub struct SeededSumsIntersection {
     seed: u64,
 }
 
-/// A new intersection, without a value. Refused with `InvalidArgument` if the hash of the seed is 0, and with `OutOfMemory`.
+/// A new intersection, without a value. Refused with `InvalidArgument` if the hash of the seed is 0, and with
+/// `OutOfMemory`.
 pub fn built(alloc: Global, seed: u64) -> Result<SeededSumsIntersection, Error>
     ensures made { IfOk result (λ i. IsNewSumsIntersection seed i) }
     ensures refused { Refuses result (seed_refusal seed) true }

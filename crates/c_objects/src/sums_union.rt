@@ -6,7 +6,8 @@ ghost use Rattle.core_laws.specs.declared.TheConstants.{MAX_THETA};
 ghost use Rattle.core_slots.specs.Entry.{tuple_key};
 ghost use Rattle.core_state.specs.View.{shows, sequence};
 ghost use Rattle.c_objects.specs.CompactSums.{OfSums, OfCompactSums, OfSumsImage};
-ghost use Rattle.c_objects.specs.SumsUnion.{IsNewSumsUnion, AddsShownSums, IsSumsUnionResult, IsSumsUnionImage, IsSumsResultRefusal, ResetsSumsUnion};
+ghost use Rattle.c_objects.specs.SumsUnion.{IsNewSumsUnion, AddsShownSums, IsSumsUnionResult, IsSumsUnionImage};
+ghost use Rattle.c_objects.specs.SumsUnion.{IsSumsResultRefusal, ResetsSumsUnion};
 ghost use Rattle.c_objects.specs.declared.sums_union.SeededSumsUnion.{SeededSumsUnion};
 
 use crate::compact_sums::CompactSums;
@@ -24,8 +25,8 @@ pub struct SeededSumsUnion {
     seed: u64,
 }
 
-/// A new union of 2^`lg_k` nominal entries, `lg_k` from 4 to 26. Refused with `InvalidArgument` if `lg_k` is out of range or
-/// the hash of the seed is 0, and with `OutOfMemory`.
+/// A new union of 2^`lg_k` nominal entries, `lg_k` from 4 to 26. Refused with `InvalidArgument` if `lg_k` is out of
+/// range or the hash of the seed is 0, and with `OutOfMemory`.
 pub fn built(alloc: Global, lg_k: u8, seed: u64) -> Result<SeededSumsUnion, Error>
     ensures made { IfOk result (λ u. IsNewSumsUnion lg_k seed u) }
     ensures refused { Refuses result (settings_refusal lg_k MAX_THETA seed) true }

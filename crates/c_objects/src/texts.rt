@@ -17,9 +17,9 @@ pub fn new_text(seed: u64) -> OpenText
     })
 }
 
-/// Updates a sketch with the lines that end in the next piece of a text. Refused with `INVALID_ARGUMENT` if the text is of
-/// another seed; then nothing has changed. Refused with `OUT_OF_MEMORY`; then exactly some first lines of the piece have been
-/// inserted, perhaps none, and the text is as before the piece.
+/// Updates a sketch with the lines that end in the next piece of a text. Refused with `INVALID_ARGUMENT` if the text
+/// is of another seed; then nothing has changed. Refused with `OUT_OF_MEMORY`; then exactly some first lines of the
+/// piece have been inserted, perhaps none, and the text is as before the piece.
 pub fn update_text(theta: &mut SeededSketch, text: &mut OpenText, piece: &[u8]) -> u32
     ensures { UpdatesText piece.now text.old theta.old result text.new theta.new }
 {
@@ -32,8 +32,8 @@ pub fn update_text(theta: &mut SeededSketch, text: &mut OpenText, piece: &[u8]) 
     }
 }
 
-/// Ends a text: updates the sketch with a last line that no LF ends, if it has a byte. Refused with `INVALID_ARGUMENT` if the
-/// text is of another seed, and with `OUT_OF_MEMORY`; then nothing has changed.
+/// Ends a text: updates the sketch with a last line that no LF ends, if it has a byte. Refused with
+/// `INVALID_ARGUMENT` if the text is of another seed, and with `OUT_OF_MEMORY`; then nothing has changed.
 pub fn end_text(theta: &mut SeededSketch, text: &mut OpenText) -> u32
     ensures { EndsText text.old theta.old result text.new theta.new }
 {

@@ -3,7 +3,8 @@ ghost use Rattle.std.specs.Prelude.{true, IfOk};
 ghost use Rattle.core_laws.specs.Refusal.{Refuses};
 ghost use Rattle.core_laws.specs.Settings.{settings_refusal};
 ghost use Rattle.c_objects.specs.Status.{IsMemoryRefusal};
-ghost use Rattle.c_objects.specs.Thetas.{IsNewSketch, IsSameSketch, UpdatesHash, UpdatesNumber, UpdatesBytes, UpdatesHashes, Trims, Resets, theta_state, IsImageOf, IsCompactForm};
+ghost use Rattle.c_objects.specs.Thetas.{IsNewSketch, IsSameSketch, UpdatesHash, UpdatesNumber, UpdatesBytes};
+ghost use Rattle.c_objects.specs.Thetas.{UpdatesHashes, Trims, Resets, theta_state, IsImageOf, IsCompactForm};
 ghost use Rattle.c_objects.specs.declared.theta.SeededSketch.{SeededSketch};
 
 use crate::compact::CompactSketch;
@@ -22,9 +23,9 @@ pub struct SeededSketch {
     pub(crate) seed: u64,
 }
 
-/// A new sketch of 2^`lg_k` nominal entries, `lg_k` from 4 to 26, whose slots grow by a resize factor and which begins at a
-/// theta from 1 to `MAX_THETA`. Refused with `InvalidArgument` if a setting is out of range or the hash of the seed is 0,
-/// and with `OutOfMemory`.
+/// A new sketch of 2^`lg_k` nominal entries, `lg_k` from 4 to 26, whose slots grow by a resize factor and which
+/// begins at a theta from 1 to `MAX_THETA`. Refused with `InvalidArgument` if a setting is out of range or the hash
+/// of the seed is 0, and with `OutOfMemory`.
 pub fn built(
     alloc: Global,
     lg_k: u8,
@@ -73,8 +74,8 @@ pub fn update_bytes(theta: &mut SeededSketch, bytes: &[u8]) -> u32
     update_hash(theta, hash)
 }
 
-/// Updates a sketch with hashes in their order. The status is `OK`, or `OUT_OF_MEMORY` at a new hash below theta; then
-/// exactly the hashes before it have been inserted.
+/// Updates a sketch with hashes in their order. The status is `OK`, or `OUT_OF_MEMORY` at a new hash below theta;
+/// then exactly the hashes before it have been inserted.
 #[inline(always)]
 pub fn update_hashes(theta: &mut SeededSketch, hashes: &[u64]) -> u32
     ensures { UpdatesHashes hashes.now theta.old result theta.new }

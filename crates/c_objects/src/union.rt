@@ -5,7 +5,8 @@ ghost use Rattle.core_laws.specs.Settings.{settings_refusal};
 ghost use Rattle.core_laws.specs.declared.TheConstants.{MAX_THETA};
 ghost use Rattle.theta_sketches.specs.View.{view_shows, view_sequence};
 ghost use Rattle.c_objects.specs.Thetas.{OfCompact, OfImage};
-ghost use Rattle.c_objects.specs.Union.{IsNewUnion, AddsShown, AddsUpdatable, AddsAll, AddsBatch, IsUnionResult, IsUnionImage, IsResultRefusal, ResetsUnion};
+ghost use Rattle.c_objects.specs.Union.{IsNewUnion, AddsShown, AddsUpdatable, AddsAll, AddsBatch, IsUnionResult};
+ghost use Rattle.c_objects.specs.Union.{IsUnionImage, IsResultRefusal, ResetsUnion};
 ghost use Rattle.c_objects.specs.declared.union.SeededUnion.{SeededUnion};
 
 use crate::batch::SeededBatch;
@@ -25,8 +26,8 @@ pub struct SeededUnion {
     seed: u64,
 }
 
-/// A new union of 2^`lg_k` nominal entries, `lg_k` from 4 to 26. Refused with `InvalidArgument` if `lg_k` is out of range or
-/// the hash of the seed is 0, and with `OutOfMemory`.
+/// A new union of 2^`lg_k` nominal entries, `lg_k` from 4 to 26. Refused with `InvalidArgument` if `lg_k` is out of
+/// range or the hash of the seed is 0, and with `OutOfMemory`.
 pub fn built(alloc: Global, lg_k: u8, seed: u64) -> Result<SeededUnion, Error>
     ensures made { IfOk result (λ u. IsNewUnion lg_k seed u) }
     ensures refused { Refuses result (settings_refusal lg_k MAX_THETA seed) true }
@@ -74,8 +75,8 @@ impl AcceptsImages for SeededUnion {
     }
 }
 
-/// Merges sketches into a union at once. The status is `OK`; or that of the refusal, `OUT_OF_MEMORY` also if memory for
-/// their views is refused, and then nothing has changed.
+/// Merges sketches into a union at once. The status is `OK`; or that of the refusal, `OUT_OF_MEMORY` also if memory
+/// for their views is refused, and then nothing has changed.
 fn add_all(union: &mut SeededUnion, alloc: Global, sketches: &[CompactThetaSketch]) -> u32
     ensures { AddsAll sketches.now union.old result union.new }
 {

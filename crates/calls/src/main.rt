@@ -1,8 +1,8 @@
 //! Makes the public calls that the lines of standard input name, and prints what each answers.
 //!
-//! A line names an object, its settings and its calls, in words; `tests/calls/README.md` has the language. Its calls are
-//! made plainly, or with each request for memory refused in turn. `checks/public_calls.py` compares the answers with those of a
-//! second implementation that shares no code with this project.
+//! A line names an object, its settings and its calls, in words; `tests/calls/README.md` has the language. Its calls
+//! are made plainly, or with each request for memory refused in turn. `checks/public_calls.py` compares the answers
+//! with those of a second implementation that shares no code with this project.
 #![tactic(auto)]
 
 use calls_language::driver::Line;

@@ -192,8 +192,8 @@ impl<'h, 'l> Driver<'h, 'l> {
         Ok(())
     }
 
-    /// Makes the object of the line's settings with its first, its second and each later request refused, until none is.
-    /// Returns also how many were, or the word of what is wrong.
+    /// Makes the object of the line's settings with its first, its second and each later request refused, until none
+    /// is. Returns also how many were, or the word of what is wrong.
     fn make_refused<A: Copy, O: Object<A> + Drop>(
         &self,
         alloc: A,

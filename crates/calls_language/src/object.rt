@@ -101,7 +101,8 @@ pub trait Object<A>: Sized {
 
 /// An operand of a call, whose own memory is of `A`.
 pub trait Operand<A>: Sized {
-    /// The operand of a word. What isn't of it is in plain memory, which is never refused. Its errors are those of an operand.
+    /// The operand of a word. What isn't of it is in plain memory, which is never refused. Its errors are those of an
+    /// operand.
     fn read(plain: Global, alloc: A, word: &str) -> Result<Self, Fault>;
 }
 

@@ -16,7 +16,8 @@ fn whole(word: &str) -> Result<i128, Fault> {
     word.parse::<i128>().map_err(|_| Fault::Unknown)
 }
 
-/// The last number of a series and its step, from the text after `..`: `61`, or `199/2`; the step is 1 if there is none.
+/// The last number of a series and its step, from the text after `..`: `61`, or `199/2`; the step is 1 if there is
+/// none.
 fn end_and_step(word: &str) -> Result<(i128, i128), Fault> {
     match word.split_once('/') {
         Some((last, step)) => Ok((whole(last)?, whole(step)?)),
@@ -117,8 +118,8 @@ fn cut_type(argument: &str) -> (&'static str, &str) {
     }
 }
 
-/// The arguments of a series with dots, `SERIES`, `u64:SERIES` or `i32:SERIES`, maybe with `:VALUE` behind; none of any
-/// other argument.
+/// The arguments of a series with dots, `SERIES`, `u64:SERIES` or `i32:SERIES`, maybe with `:VALUE` behind; none of
+/// any other argument.
 pub fn spread_of(plain: Global, argument: &str) -> Result<Option<Spread<'_>>, Fault> {
     let (head, rest) = cut_type(argument);
     let (series, tail) = match rest.split_once(':') {

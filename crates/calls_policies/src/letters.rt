@@ -112,7 +112,8 @@ impl<A: Allocator + Copy> Copy for Appending<A> {}
 
 /// Appends bytes to letters, and refuses more than 255.
 fn append<A: Allocator>(letters: &mut Letters<A>, bytes: &[u8]) -> Result<(), Error>
-    ensures appended { MatchResult result (λ _. appended letters.old bytes.now ≡ Some letters.new) (λ _. letters.new ≡ letters.old) }
+    ensures appended { MatchResult result (λ _. appended letters.old bytes.now ≡ Some letters.new) (λ _.
+        letters.new ≡ letters.old) }
     ensures refused { Refuses result (policy_refusal (is_none (appended letters.old bytes.now))) true }
 {
     if 255 < letters.bytes.len() + bytes.len() {

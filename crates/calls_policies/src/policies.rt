@@ -1,5 +1,6 @@
 //! Policies of tuple sketches whose summaries are numbers of 64 bits, and how lines name policies.
-ghost use Rattle.std.specs.Prelude.{◌≡◌, Some, None, false, true, max, nat_lt, if◌then◌else◌, ◌+◌, ◌*◌, ◌^◌, ◌==◌, ◌||◌};
+ghost use Rattle.std.specs.Prelude.{◌≡◌, Some, None, false, true, max, nat_lt, if◌then◌else◌, ◌+◌, ◌*◌, ◌^◌, ◌==◌};
+ghost use Rattle.std.specs.Prelude.{◌||◌};
 
 use calls_language::words::{Fault, number};
 use sketch_base::{Error, ErrorKind};
@@ -82,7 +83,8 @@ impl SummaryPolicy for Digits {
 }
 
 impl SummaryUpdatePolicy<u64> for Digits {
-    ghost updates = { λ policy digits digit. if nat_lt (10 * digits + digit) (2 ^ 64) then Some (10 * digits + digit) else None };
+    ghost updates = { λ policy digits digit.
+        if nat_lt (10 * digits + digit) (2 ^ 64) then Some (10 * digits + digit) else None };
 
     fn update(&self, digits: &mut u64, digit: u64) -> Result<(), Error> {
         let Some(tens) = digits.checked_mul(10) else {
@@ -97,7 +99,8 @@ impl SummaryUpdatePolicy<u64> for Digits {
 }
 
 impl SummaryCombinePolicy for Digits {
-    ghost combines = { λ policy digits digit. if nat_lt (10 * digits + digit) (2 ^ 64) then Some (10 * digits + digit) else None };
+    ghost combines = { λ policy digits digit.
+        if nat_lt (10 * digits + digit) (2 ^ 64) then Some (10 * digits + digit) else None };
 
     fn combine(&self, digits: &mut u64, incoming: &u64) -> Result<(), Error> {
         self.update(digits, *incoming)
@@ -129,7 +132,10 @@ impl SummaryPolicy for RefusesOne {
 }
 
 impl SummaryUpdatePolicy<u64> for RefusesOne {
-    ghost updates = { λ policy sum value. if value == policy.refused then None else if nat_lt (sum + value) (2 ^ 64) then Some (sum + value) else None };
+    ghost updates = { λ policy sum value.
+        if value == policy.refused then None
+        else if nat_lt (sum + value) (2 ^ 64) then Some (sum + value)
+        else None };
 
     fn update(&self, sum: &mut u64, value: u64) -> Result<(), Error> {
         if value == self.refused {
@@ -144,7 +150,10 @@ impl SummaryUpdatePolicy<u64> for RefusesOne {
 }
 
 impl SummaryCombinePolicy for RefusesOne {
-    ghost combines = { λ policy sum value. if value == policy.refused then None else if nat_lt (sum + value) (2 ^ 64) then Some (sum + value) else None };
+    ghost combines = { λ policy sum value.
+        if value == policy.refused then None
+        else if nat_lt (sum + value) (2 ^ 64) then Some (sum + value)
+        else None };
 
     fn combine(&self, sum: &mut u64, incoming: &u64) -> Result<(), Error> {
         self.update(sum, *incoming)

@@ -1,4 +1,5 @@
-//! Operands of the states of operators: a state that takes updates, or a compact state, in memory that is never refused.
+//! Operands of the states of operators: a state that takes updates, or a compact state, in memory that is never
+//! refused.
 ghost use Rattle.core_laws.specs.Entries.{ClonesEqual};
 
 use calls_language::entries::ShownEntry;

@@ -106,7 +106,8 @@ fn refuses<E: SteppedEntry, P: UnionMergePolicy<E> + Drop, A: Allocator + Clone>
     Ok(is_failure(union.update(operand.view())))
 }
 
-/// Whether the state of a union refuses an empty operand, this one of another seed, and each other call, with `Failed`.
+/// Whether the state of a union refuses an empty operand, this one of another seed, and each other call, with
+/// `Failed`.
 fn is_failed<E: SteppedEntry, P: UnionMergePolicy<E> + Drop, A: Allocator + Clone>(
     union: &mut UnionState<E, P, A>,
     plain: Global,

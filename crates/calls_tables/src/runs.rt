@@ -118,8 +118,8 @@ impl<T: Runnable<A> + Drop, A: Allocator + Copy + Drop> RunTable<T, A> {
         Ok(())
     }
 
-    /// Runs the commands of words. A refused run must leave the table that a beginning leaves; then the table becomes what
-    /// it was before.
+    /// Runs the commands of words. A refused run must leave the table that a beginning leaves; then the table becomes
+    /// what it was before.
     fn run(&mut self, memory: Memory<'_>, words: &str, answer: &mut String) -> Result<(), Fault> {
         let plain = memory.plain();
         let commands = Commands::read(plain, words)?;

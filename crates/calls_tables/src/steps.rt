@@ -9,7 +9,14 @@ pub struct Declining;
 impl<X> UpsertStep<X> for Declining {
     ghost use Rattle.std.specs.Prelude.{None, false};
 
-    ghost means = { λ step. record { writes = λ x. x; refuses_existing = λ _. None; makes = None; refuses_absent = None; allocates = false } };
+    ghost means = { λ step.
+        record {
+          writes = λ x. x;
+          refuses_existing = λ _. None;
+          makes = None;
+          refuses_absent = None;
+          allocates = false;
+        } };
 
     fn existing(self, _entry: &mut X) -> Result<(), Error> {
         Ok(())
@@ -28,7 +35,14 @@ impl<X> UpsertStep<X> for Refusing {
     ghost use Rattle.std.specs.Prelude.{None, Some, false};
     ghost use Rattle.sketch_base.specs.declared.error.ErrorKind.TheVariants.{Policy};
 
-    ghost means = { λ step. record { writes = λ x. x; refuses_existing = λ _. Some Policy; makes = None; refuses_absent = Some Policy; allocates = false } };
+    ghost means = { λ step.
+        record {
+          writes = λ x. x;
+          refuses_existing = λ _. Some Policy;
+          makes = None;
+          refuses_absent = Some Policy;
+          allocates = false;
+        } };
 
     fn existing(self, _entry: &mut X) -> Result<(), Error> {
         Err(Error::new(ErrorKind::Policy))
@@ -49,7 +63,14 @@ impl UpsertStep<u64> for Adding {
     ghost use Rattle.std.specs.Prelude.{None, Some, false, nat_lt, if◌then◌else◌, ◌+◌, ◌^◌};
     ghost use Rattle.sketch_base.specs.declared.error.ErrorKind.TheVariants.{Policy};
 
-    ghost means = { λ step. record { writes = λ x. x + step.value; refuses_existing = λ x. if nat_lt (x + step.value) (2 ^ 64) then None else Some Policy; makes = Some step.value; refuses_absent = None; allocates = false } };
+    ghost means = { λ step.
+        record {
+          writes = λ x. x + step.value;
+          refuses_existing = λ x. if nat_lt (x + step.value) (2 ^ 64) then None else Some Policy;
+          makes = Some step.value;
+          refuses_absent = None;
+          allocates = false;
+        } };
 
     fn existing(self, summary: &mut u64) -> Result<(), Error> {
         match summary.checked_add(self.value) {

@@ -1,4 +1,5 @@
-//! Objects of lines for tuple_sketches, each with a policy that the line names, and the reading of images of both families.
+//! Objects of lines for tuple_sketches, each with a policy that the line names, and the reading of images of both
+//! families.
 #![tactic(auto)]
 
 mod objects;

@@ -28,7 +28,14 @@ impl<E: SketchEntry, A: Allocator> Model for CompactSketchState<E, A> {
 
     ghost Value = { Compact E };
 
-    ghost view = { λ s. record { empty = s.empty; entries = s.entries.items; theta = s.theta; seed_hash = s.seed_hash; ordered = s.ordered } };
+    ghost view = { λ s.
+        record {
+          empty = s.empty;
+          entries = s.entries.items;
+          theta = s.theta;
+          seed_hash = s.seed_hash;
+          ordered = s.ordered;
+        } };
 
     ghost invariant = { λ s. IsCompact E.key
         (record {
@@ -61,7 +68,14 @@ impl<E: SketchEntry, A: Allocator> CompactSketchState<E, A> {
             shown_of E.key (
             record
             { empty = false; entries = entries.items; theta = theta; seed_hash = seed_hash; ordered = ordered })) }
-        ensures { result ≡ record { empty = false; entries = entries.items; theta = theta; seed_hash = seed_hash; ordered = ordered } }
+        ensures { result
+            ≡ record {
+              empty = false;
+              entries = entries.items;
+              theta = theta;
+              seed_hash = seed_hash;
+              ordered = ordered;
+            } }
     {
         CompactSketchState {
             empty: false,
@@ -131,8 +145,8 @@ impl<E: SketchEntry, A: Allocator> CompactSketchState<E, A> {
 impl<E: SketchEntry + Drop, A: Allocator + Clone> CompactSketchState<E, A> {
     /// The state with each entry replaced by the result of `f`, in memory of a clone of its allocator.
     ///
-    /// `f` is called once for each entry, in their order, and may change what it captures. Whatever earlier calls have
-    /// changed, it must be callable at the next entry, and must return an entry of the same hash.
+    /// `f` is called once for each entry, in their order, and may change what it captures. Whatever earlier calls
+    /// have changed, it must be callable at the next entry, and must return an entry of the same hash.
     ///
     /// Refused with `OutOfMemory` alone; then the entries are dropped.
     pub fn map_retained_entries<F: SketchEntry + Drop, G: FnMut(E) -> F + Drop>(
@@ -140,7 +154,10 @@ impl<E: SketchEntry + Drop, A: Allocator + Clone> CompactSketchState<E, A> {
         f: G,
     ) -> Result<CompactSketchState<F, A>, Error>
         requires callable { (g : G) (x : E) → MayReach G.step f self.entries g x → G.pre g x }
-        requires keeps_hash { (g : G) (x : E) (y : F) (next : G) → MayReach G.step f self.entries g x → G.step g x y next → F.key y ≡ E.key x }
+        requires keeps_hash { (g : G) (x : E) (y : F) (next : G)
+            → MayReach G.step f self.entries g x
+            → G.step g x y next
+            → F.key y ≡ E.key x }
         ensures entries { IfOk result (λ s. (last : G) × MakesInTurn G.step f self.entries s.entries last) }
         ensures same { IfOk result (λ s.
             s
@@ -167,8 +184,8 @@ impl<E: SketchEntry + Drop, A: Allocator + Clone> CompactSketchState<E, A> {
     }
 }
 
-/// Whether a result of `count` entries below `theta` is ordered: if `requested`, or if it has one entry and the greatest
-/// theta.
+/// Whether a result of `count` entries below `theta` is ordered: if `requested`, or if it has one entry and the
+/// greatest theta.
 pub fn is_answer_ordered(requested: bool, count: usize, theta: u64) -> bool
     ensures { result ≡ is_answer_ordered requested count theta }
 {
@@ -182,7 +199,10 @@ fn images<E: SketchEntry + Drop, F: SketchEntry + Drop, G: FnMut(E) -> F + Drop,
     mut f: G,
 ) -> Result<Vec<F, A>, AllocError>
     requires callable { (g : G) (x : E) → MayReach G.step f entries.items g x → G.pre g x }
-    requires keeps_hash { (g : G) (x : E) (y : F) (next : G) → MayReach G.step f entries.items g x → G.step g x y next → F.key y ≡ E.key x }
+    requires keeps_hash { (g : G) (x : E) (y : F) (next : G)
+        → MayReach G.step f entries.items g x
+        → G.step g x y next
+        → F.key y ≡ E.key x }
     ensures images { IfOk result (λ ys. (last : G) × MakesInTurn G.step f entries.items ys.items last) }
     ensures hashes { IfOk result (λ ys. map F.key ys.items ≡ map E.key entries.items) }
 {

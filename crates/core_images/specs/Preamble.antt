@@ -1,5 +1,6 @@
 -- The preamble of an image, before its entries: its fields, and how it is read.
-use Rattle.std.specs.Prelude.{ℕ, ◌==◌, Bool, not, List, take, drop, slice_index, bit_and, ◌*◌, ◌≡◌, ◌≤◌, length, nat_lt, if◌then◌else◌, ⊤, ◌<◌, ◌&&◌, ◌||◌, nat_le, Option, Some, None}
+use Rattle.std.specs.Prelude.{ℕ, ◌==◌, Bool, not, List, take, drop, slice_index, bit_and, ◌*◌, ◌≡◌, ◌≤◌, length}
+use Rattle.std.specs.Prelude.{nat_lt, if◌then◌else◌, ⊤, ◌<◌, ◌&&◌, ◌||◌, nat_le, Option, Some, None}
 use Rattle.sketch_base.specs.Bytes.{number}
 use Rattle.core_laws.specs.declared.TheConstants.{MAX_THETA}
 use Rattle.core_images.specs.declared.preamble.Preamble.{Preamble}

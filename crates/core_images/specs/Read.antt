@@ -39,7 +39,8 @@ pub data ReadsFlagged {X : Type 0} (key : X → ℕ) (Spells : List ℕ → X �
 
 -- these bytes are read as version 3 of a family and kind
 abbrev pub ReadsCurrent : {X : Type 0} → (X → ℕ) → (List ℕ → X → Type 0) → (family kind : ℕ) → (bytes : List ℕ) → (h : ℕ) → Compact X → Type 0
-ReadsCurrent key Spells family kind bytes h s = (longs : ℕ) × Begins bytes longs 3 family × (slice_index bytes 3 ≡ kind) × ReadsFlagged key Spells bytes longs h s
+ReadsCurrent key Spells family kind bytes h s =
+    (longs : ℕ) × Begins bytes longs 3 family × (slice_index bytes 3 ≡ kind) × ReadsFlagged key Spells bytes longs h s
 
 -- a layout allows this state: by what it says, and by the bytes after the preamble
 abbrev pub LeavesOpen : {X : Type 0} → (X → ℕ) → (List ℕ → X → Type 0) → List ℕ → (h : ℕ) → Option Layout → Compact X → Type 0

@@ -1,12 +1,14 @@
 -- A tuple has one spelling, the bytes that are written of it; and so has a whole number.
-use Rattle.std.proofs.Common.{◌≡◌, ℕ, ℤ, ◌+◌, ◌^◌, ◌<◌, ◌≤◌, List, [], ◌∷◌, ◌++◌, length, take, drop, refl, sym, ap, ◌∙◌, arith, append_assoc, length-append, take-append-drop, to_z-of_z}
+use Rattle.std.proofs.Common.{◌≡◌, ℕ, ℤ, ◌+◌, ◌^◌, ◌<◌, ◌≤◌, List, [], ◌∷◌, ◌++◌, length, take, drop, refl, sym, ap}
+use Rattle.std.proofs.Common.{◌∙◌, arith, append_assoc, length-append, take-append-drop, to_z-of_z}
 use Rattle.std.proofs.lemmas.List.{append_cancel_left, length-take-le, length-drop}
 use mir.ValLaws.{of_z_fits}
 use Rattle.std.specs.Prelude.{FitsSigned}
 use Rattle.std.specs.Int.{Width, w32, w64, to_le_bytes, from_le_bytes, cast_signed, cast_unsigned}
 use Rattle.sketch_base.specs.Bytes.{number}
 use Rattle.core_slots.specs.declared.entry.TupleEntry.{TupleEntry}
-use Rattle.core_images.specs.HashSpelling.{one_hash, hash_written, hash_spelled, word_number, number-four, number-eight, same_front}
+use Rattle.core_images.specs.HashSpelling.{one_hash, hash_written, hash_spelled, word_number, number-four}
+use Rattle.core_images.specs.HashSpelling.{number-eight, same_front}
 use Rattle.core_images.specs.Summary.{SpellsTuple, SpellsNumber, SpellsSigned, tuple_text, tuple_in}
 
 -- no spelling is a prefix of another, and each spells one number
@@ -72,7 +74,10 @@ module _ {S : Type 0} (Spells : List ℕ → S → Type 0) where
       (p.2 ∙ (λ i. hashes.0 i ++ summaries.0 i) ∙ sym q.2, λ i. record { hash = hashes.1 i; summary = summaries.1 i })
 
   -- the bytes written of an entry spell it
-  pub tuple_written : (text : S → List ℕ) (x : TupleEntry S) → x.hash < 2 ^ 64 → Spells (text x.summary) x.summary → SpellsTuple Spells (tuple_text text x) x
+  pub tuple_written : (text : S → List ℕ) (x : TupleEntry S)
+      → x.hash < 2 ^ 64
+      → Spells (text x.summary) x.summary
+      → SpellsTuple Spells (tuple_text text x) x
   tuple_written text x small s = (to_le_bytes w64 x.hash, text x.summary, refl, hash_written x.hash small, s)
 
   -- a spelling has at least eight bytes
@@ -81,7 +86,11 @@ module _ {S : Type 0} (Spells : List ℕ → S → Type 0) where
 
   module _ (n : ℕ) where
     -- any bytes of this size spell the entry that is read of them, if those after the hash spell its summary
-    pub tuple_spelled : (summary_of : List ℕ → S) → ((a : List ℕ) → length a ≡ n → Spells a (summary_of a)) → (a : List ℕ) → length a ≡ 8 + n → SpellsTuple Spells a (tuple_in summary_of a)
+    pub tuple_spelled : (summary_of : List ℕ → S)
+        → ((a : List ℕ) → length a ≡ n → Spells a (summary_of a))
+        → (a : List ℕ)
+        → length a ≡ 8 + n
+        → SpellsTuple Spells a (tuple_in summary_of a)
     tuple_spelled summary_of any a e =
         let front : length (take 8 a) ≡ 8 = length-take-le 8 a (omega arith) in
         let behind : length (drop 8 a) ≡ n = let left = length-drop 8 a in omega arith in

@@ -1,5 +1,6 @@
 //! Writes and reads many entries of one size at a time.
-ghost use Rattle.std.specs.Prelude.{◌≡◌, ◌<◌, ◌≤◌, ◌^◌, ◌/◌, ◌++◌, ◌&&◌, ℕ, List, length, map, take, None, true, IfOk, IfErr, OnOk};
+ghost use Rattle.std.specs.Prelude.{◌≡◌, ◌<◌, ◌≤◌, ◌^◌, ◌/◌, ◌++◌, ◌&&◌, ℕ, List, length, map, take, None, true};
+ghost use Rattle.std.specs.Prelude.{IfOk, IfErr, OnOk};
 ghost use Rattle.std.specs.List.{AllByRecursion, flat_map};
 ghost use Rattle.std.specs.Simd.{first_chunks};
 ghost use Rattle.core_images.specs.Check.{ascends_from};
@@ -128,7 +129,8 @@ fn subtract_block<E: FixedEntry<N> + SketchEntry + Drop, const N: usize>(
 ) -> (bool, u64)
     ensures { result.0 ≡ true
         → (others : List ℕ)
-        → ascends_from result.1 others ≡ ascends_from before (map (λ text. E.key (E.entry_of text)) block.now ++ others) }
+        → ascends_from result.1 others
+        ≡ ascends_from before (map (λ text. E.key (E.entry_of text)) block.now ++ others) }
 {
     let mut last = before;
     let mut differences = u64::MAX;

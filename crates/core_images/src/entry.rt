@@ -23,8 +23,8 @@ pub trait ImageEntry<A: Allocator>: SketchEntry {
     /// The bytes written of an entry.
     ghost text: { Self → List ℕ };
 
-    /// Appends the bytes of each entry, in their order. Refused with `OutOfMemory` alone; then the contents of `bytes`
-    /// are unspecified.
+    /// Appends the bytes of each entry, in their order. Refused with `OutOfMemory` alone; then the contents of
+    /// `bytes` are unspecified.
     fn write_each<B: Allocator>(entries: &[Self], bytes: &mut SketchBytes<B>) -> Result<(), Error>
         ensures ok { OnOk result (bytes.new.bytes ≡ bytes.old.bytes ++ flat_map text entries.now) }
         ensures values { OnOk result (AllByRecursion is_value entries.now) }
@@ -40,8 +40,9 @@ pub trait ImageEntry<A: Allocator>: SketchEntry {
         ensures ok { IfOk result (λ v. Holds spells bytes.now count v.items) }
         ensures refused { IfErr result (λ e. IsRefused e ((xs : List Self) × Holds spells bytes.now count xs)) };
 
-    /// Reads as `read_each` does, and returns beside the entries whether each hash is above the one before it, and the
-    /// first above 0. Refused as `read_each` is. Entries of one size may be compared while they are in a near cache.
+    /// Reads as `read_each` does, and returns beside the entries whether each hash is above the one before it, and
+    /// the first above 0. Refused as `read_each` is. Entries of one size may be compared while they are in a near
+    /// cache.
     fn read_and_compare(alloc: A, bytes: &[u8], count: u32) -> Result<(Vec<Self, A>, bool), Error>
     where
         Self: Drop,
@@ -56,7 +57,11 @@ pub trait ImageEntry<A: Allocator>: SketchEntry {
     }
 
     /// No spelling is a prefix of another, and each spells one entry.
-    ghost one_spelling: { (a b u v : List ℕ) (x y : Self) → spells a x → spells b y → a ++ u ≡ b ++ v → (a ≡ b) × (x ≡ y) };
+    ghost one_spelling: { (a b u v : List ℕ) (x y : Self)
+        → spells a x
+        → spells b y
+        → a ++ u ≡ b ++ v
+        → (a ≡ b) × (x ≡ y) };
 
     /// The bytes written of a value spell it.
     ghost text_spells: { (x : Self) → is_value x → Self.key x < 2 ^ 64 → spells (text x) x };

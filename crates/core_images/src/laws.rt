@@ -10,12 +10,18 @@ use std::alloc::Allocator;
 
 /// Bytes are read as at most one state.
 pub fn one_flagged_reading<X: ImageEntry<A>, A: Allocator>()
-    ensures { (bytes : List ℕ) (longs h : ℕ) (r s : Compact X) → ReadsFlagged X.key X.spells bytes longs h r → ReadsFlagged X.key X.spells bytes longs h s → r ≡ s }
+    ensures { (bytes : List ℕ) (longs h : ℕ) (r s : Compact X)
+        → ReadsFlagged X.key X.spells bytes longs h r
+        → ReadsFlagged X.key X.spells bytes longs h s
+        → r ≡ s }
 {}
 
-/// The image of a state is read as that state, whatever bytes follow it, if the state keeps the laws of compact states
-/// and its entries are values.
+/// The image of a state is read as that state, whatever bytes follow it, if the state keeps the laws of compact
+/// states and its entries are values.
 pub fn read_as_written<X: ImageEntry<A>, A: Allocator>()
-    ensures { (s : Compact X) (family kind : ℕ) (rest : List ℕ) → IsCompact X.key s → AllByRecursion X.is_value s.entries → s.seed_hash < 2 ^ 16
+    ensures { (s : Compact X) (family kind : ℕ) (rest : List ℕ)
+        → IsCompact X.key s
+        → AllByRecursion X.is_value s.entries
+        → s.seed_hash < 2 ^ 16
         → ReadsCurrent X.key X.spells family kind (written_image X.text family kind s ++ rest) s.seed_hash s }
 {}

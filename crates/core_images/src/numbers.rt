@@ -120,7 +120,8 @@ impl FixedEntry<12> for TupleEntry<i32> {
         TupleEntry::of_hash(hash, u32::from_le_bytes(number).cast_signed())
     }
 
-    ghost spelled = { tuple_spelled (SpellsSigned w32 4) 4 (λ a. cast_signed w32 (from_le_bytes w32 a)) signed_four_read };
+    ghost spelled = { tuple_spelled (SpellsSigned w32 4) 4 (λ a. cast_signed w32 (from_le_bytes w32 a))
+        signed_four_read };
 
     ghost is_long = { tuple_size (SpellsSigned w32 4) 4 (λ a x s. s.0) };
 }
@@ -150,7 +151,8 @@ impl FixedEntry<16> for TupleEntry<i64> {
         TupleEntry::of_hash(hash, u64::from_le_bytes(number).cast_signed())
     }
 
-    ghost spelled = { tuple_spelled (SpellsSigned w64 8) 8 (λ a. cast_signed w64 (from_le_bytes w64 a)) signed_eight_read };
+    ghost spelled = { tuple_spelled (SpellsSigned w64 8) 8 (λ a. cast_signed w64 (from_le_bytes w64 a))
+        signed_eight_read };
 
     ghost is_long = { tuple_size (SpellsSigned w64 8) 8 (λ a x s. s.0) };
 }

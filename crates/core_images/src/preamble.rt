@@ -77,8 +77,8 @@ pub fn admitted(p: Preamble) -> Option<Layout>
 }
 
 /// The layout of an image of version 3 with `longs` preamble longs, from 1 to 3, under the reader's seed hash. It is
-/// `None` if the image isn't flagged empty and has another seed hash, ends within its preamble, or has a theta outside
-/// its range.
+/// `None` if the image isn't flagged empty and has another seed hash, ends within its preamble, or has a theta
+/// outside its range.
 #[tactic(auto, unfolding(crate::specs::Preamble::flagged_layout))]
 pub fn flagged_layout(bytes: &[u8], longs: u8, seed_hash: u16) -> Option<Layout>
     requires whole { 8 ≤ length bytes.now }

@@ -10,8 +10,8 @@ use sketch_base::{Error, ErrorKind};
 use std::alloc::Allocator;
 
 /// Reads the state that the bytes spell by this layout, under the reader's seed hash. Refused with `InvalidData` only
-/// if they spell none, and with `OutOfMemory`. Besides what entries allocate themselves, it allocates room for at most
-/// one entry per eight bytes, and eight bytes per entry to compare hashes that don't ascend.
+/// if they spell none, and with `OutOfMemory`. Besides what entries allocate themselves, it allocates room for at
+/// most one entry per eight bytes, and eight bytes per entry to compare hashes that don't ascend.
 pub fn read_after_preamble<E: ImageEntry<A> + Drop, A: Allocator + Clone + Drop>(
     alloc: A,
     bytes: &[u8],

@@ -37,9 +37,9 @@ pub trait TupleSummaryValue<A: Allocator> {
         ensures value { OnOk result (is_value self.now) }
         ensures refused { Refuses result None true };
 
-    /// Appends the bytes of each entry, in their order: those of its hash, and then those of its summary. A type whose
-    /// summaries have one size may write many at once; the bytes are the same. Refused with `OutOfMemory` alone; then
-    /// the contents of `bytes` are unspecified.
+    /// Appends the bytes of each entry, in their order: those of its hash, and then those of its summary. A type
+    /// whose summaries have one size may write many at once; the bytes are the same. Refused with `OutOfMemory`
+    /// alone; then the contents of `bytes` are unspecified.
     fn serialize_entries<B: Allocator>(
         entries: &[TupleEntry<Self>],
         bytes: &mut SketchBytes<B>,
@@ -55,14 +55,15 @@ pub trait TupleSummaryValue<A: Allocator> {
         Ok(())
     }
 
-    /// Reads the summary that a prefix of the bytes spells, and moves past that prefix. Refused with `InvalidData` only
-    /// if no prefix spells one, and with `OutOfMemory`; then how far the cursor has moved is unspecified.
+    /// Reads the summary that a prefix of the bytes spells, and moves past that prefix. Refused with `InvalidData`
+    /// only if no prefix spells one, and with `OutOfMemory`; then how far the cursor has moved is unspecified.
     fn deserialize_value(alloc: &A, slice: &mut SketchSlice<'_>) -> Result<Self, Error>
-        ensures { ReadsPrefix (λ x. λ rest. (first : List ℕ) × spells first x × (slice.old ≡ first ++ rest)) slice.new result };
+        ensures { ReadsPrefix (λ x. λ rest. (first : List ℕ) × spells first x × (slice.old ≡ first ++ rest))
+            slice.new result };
 
     /// Reads `count` entries from the front of the bytes, each the eight bytes of its hash and then a summary, in
-    /// memory of the allocator. Refused with `InvalidData` only if the bytes don't begin with `count` entries, and with
-    /// `OutOfMemory`. It allocates room for at most one entry per eight bytes.
+    /// memory of the allocator. Refused with `InvalidData` only if the bytes don't begin with `count` entries, and
+    /// with `OutOfMemory`. It allocates room for at most one entry per eight bytes.
     fn deserialize_entries(
         alloc: A,
         bytes: &[u8],
@@ -72,7 +73,8 @@ pub trait TupleSummaryValue<A: Allocator> {
         Self: Drop,
         A: Drop,
         ensures ok { IfOk result (λ v. Holds (SpellsTuple spells) bytes.now count v.items) }
-        ensures refused { IfErr result (λ e. IsRefused e ((xs : List (TupleEntry Self)) × Holds (SpellsTuple spells) bytes.now count xs)) }
+        ensures refused { IfErr result (λ e.
+            IsRefused e ((xs : List (TupleEntry Self)) × Holds (SpellsTuple spells) bytes.now count xs)) }
     {
         // Each entry takes at least eight bytes: never allocate room for more entries than the bytes can have.
         if bytes.len() / 8 < count as usize {
@@ -89,7 +91,11 @@ pub trait TupleSummaryValue<A: Allocator> {
     }
 
     /// No spelling is a prefix of another, and each spells one summary.
-    ghost one_spelling: { (a b u v : List ℕ) (x y : Self) → spells a x → spells b y → a ++ u ≡ b ++ v → (a ≡ b) × (x ≡ y) };
+    ghost one_spelling: { (a b u v : List ℕ) (x y : Self)
+        → spells a x
+        → spells b y
+        → a ++ u ≡ b ++ v
+        → (a ≡ b) × (x ≡ y) };
 
     /// The bytes written of a value spell it.
     ghost text_spells: { (x : Self) → is_value x → spells (text x) x };

@@ -20,9 +20,9 @@ fn write_count<A: Allocator>(count: usize, bytes: &mut SketchBytes<A>) -> Result
     bytes.write_u32_le(0)
 }
 
-/// Returns the image of a state, in memory of `alloc`: version 3 of this family, with `kind` in byte 3, where a family
-/// may store its kind of sketch. Refused with `OutOfMemory` alone. If it isn't refused, every entry is a value, so that
-/// the image is read as the state.
+/// Returns the image of a state, in memory of `alloc`: version 3 of this family, with `kind` in byte 3, where a
+/// family may store its kind of sketch. Refused with `OutOfMemory` alone. If it isn't refused, every entry is a
+/// value, so that the image is read as the state.
 pub fn write_image<E: ImageEntry<A>, A: Allocator + Drop, B: Allocator>(
     alloc: A,
     state: &CompactSketchState<E, B>,

@@ -1,5 +1,6 @@
 -- Insertions into a retained map, one and many, and into a whole map.
-use Rattle.std.specs.Prelude.{ℕ, ◌≡◌, ◌⊎◌, true, IsSome, ◌==◌, ◌*◌, ◌/◌, ◌&&◌, ◌||◌, not, List, [], nat_lt, nat_le, Bool, if◌then◌else◌, Option, None, length, is_none, is_some, ◌∷◌, Result}
+use Rattle.std.specs.Prelude.{ℕ, ◌≡◌, ◌⊎◌, true, IsSome, ◌==◌, ◌*◌, ◌/◌, ◌&&◌, ◌||◌, not, List, [], nat_lt, nat_le}
+use Rattle.std.specs.Prelude.{Bool, if◌then◌else◌, Option, None, length, is_none, is_some, ◌∷◌, Result}
 use Rattle.std.specs.Option.{option_map_or}
 use Rattle.sketch_base.specs.declared.error.ErrorKind.{ErrorKind}
 use Rattle.core_laws.specs.Refusal.{Refuses}
@@ -23,7 +24,8 @@ after_absent key k step v = option_map_or (λ x. rebuilt key k (with_entry key v
 unfoldable pub after_upsert : {X : Type 0} → (X → ℕ) → (k h : ℕ) → Step X → Retained X → Retained X
 after_upsert key k h step v =
     if is_screened h v.theta then v
-    else option_map_or (λ x. record { entries = with_entry key v.entries (step.writes x); theta = v.theta }) (entry_at key v.entries h) (after_absent key k step v)
+    else option_map_or (λ x. record { entries = with_entry key v.entries (step.writes x); theta = v.theta })
+    (entry_at key v.entries h) (after_absent key k step v)
 
 -- whether the insertion makes an entry
 unfoldable pub creates : {X : Type 0} → (X → ℕ) → ℕ → Step X → Retained X → Bool
@@ -31,7 +33,9 @@ creates key h step v = not (is_screened h v.theta) && is_none (entry_at key v.en
 
 -- the refusal of an insertion of h: none if it is screened, otherwise that of the step
 unfoldable pub upsert_refusal : {X : Type 0} → (X → ℕ) → ℕ → Step X → Retained X → Option ErrorKind
-upsert_refusal key h step v = if is_screened h v.theta then None else option_map_or step.refuses_existing (entry_at key v.entries h) step.refuses_absent
+upsert_refusal key h step v =
+    if is_screened h v.theta then None
+    else option_map_or step.refuses_existing (entry_at key v.entries h) step.refuses_absent
 
 -- whether an insertion of h may take memory: if it makes an entry, or if the step may
 unfoldable pub upsert_allocates : {X : Type 0} → (X → ℕ) → ℕ → Step X → Retained X → Bool
@@ -65,4 +69,6 @@ Drops {X} P (x ∷ xs) ys = (P x × Drops P xs ys) ⊎ ((zs : List X) × (ys ≡
 
 -- a step at h on a whole map, which has no theta
 abbrev pub whole_upsert : {X : Type 0} → (X → ℕ) → ℕ → Step X → List X → List X
-whole_upsert key h step whole = option_map_or (λ x. with_entry key whole (step.writes x)) (entry_at key whole h) (option_map_or (λ x. with_entry key whole x) step.makes whole)
+whole_upsert key h step whole =
+    option_map_or (λ x. with_entry key whole (step.writes x)) (entry_at key whole h)
+    (option_map_or (λ x. with_entry key whole x) step.makes whole)

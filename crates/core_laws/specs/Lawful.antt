@@ -5,7 +5,13 @@ use Rattle.core_laws.specs.Cuts.{Retained}
 
 -- theta is the start, or a key below it that has at least k smaller ones
 abbrev pub IsLawful : {X : Type 0} → (X → ℕ) → List X → (k start theta : ℕ) → Type 0
-IsLawful key xs k start theta = (theta ≡ start) ⊎ record { below_start : theta < start; is_key : IsSome (entry_at key xs theta); ranked : k ≤ rank key xs theta }
+IsLawful key xs k start theta =
+    (theta ≡ start)
+    ⊎ record {
+      below_start : theta < start;
+      is_key : IsSome (entry_at key xs theta);
+      ranked : k ≤ rank key xs theta;
+    }
 
 -- the retained map is within a whole map: all of it below a lawful theta
 pub record IsWithin {X : Type 0} (key : X → ℕ) (k start : ℕ) (v : Retained X) (whole : List X) : Type 0 where

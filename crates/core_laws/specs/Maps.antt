@@ -1,5 +1,6 @@
 -- Maps. A map is the list of its entries, ascending by key.
-use Rattle.std.specs.Prelude.{ℕ, ◌<◌, ◌≡◌, ◌==◌, ⊤, List, [], ◌∷◌, ◌++◌, nat_lt, filter, find, count_by, Option, None, ◌+◌, ◌-◌, IsPermutation}
+use Rattle.std.specs.Prelude.{ℕ, ◌<◌, ◌≡◌, ◌==◌, ⊤, List, [], ◌∷◌, ◌++◌, nat_lt, filter, find, count_by, Option}
+use Rattle.std.specs.Prelude.{None, ◌+◌, ◌-◌, IsPermutation}
 use Rattle.std.specs.List.{AllByRecursion}
 use Rattle.std.specs.Option.{option_map_or}
 

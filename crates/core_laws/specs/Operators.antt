@@ -1,5 +1,6 @@
 -- Union, intersection and difference of sketch values.
-use Rattle.std.specs.Prelude.{ℕ, ◌≡◌, ◌==◌, ◌&&◌, not, min, Bool, if◌then◌else◌, Option, Some, None, IsSome, is_none, option_map, List, [], ◌∷◌, ◌++◌, map, length, filter, filter_map}
+use Rattle.std.specs.Prelude.{ℕ, ◌≡◌, ◌==◌, ◌&&◌, not, min, Bool, if◌then◌else◌, Option, Some, None, IsSome}
+use Rattle.std.specs.Prelude.{is_none, option_map, List, [], ◌∷◌, ◌++◌, map, length, filter, filter_map}
 use Rattle.std.specs.List.{AllByRecursion}
 use Rattle.std.specs.Option.{option_map_or}
 use Rattle.core_laws.specs.declared.TheConstants.{MAX_THETA}

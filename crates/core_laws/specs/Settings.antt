@@ -9,4 +9,7 @@ use Rattle.core_laws.specs.declared.TheConstants.{MAX_THETA, MIN_LG_K, MAX_LG_K}
 -- hash is 0
 abbrev pub settings_refusal : (lg_k start seed : ℕ) → Option ErrorKind
 settings_refusal lg_k start seed =
-    if nat_le MIN_LG_K lg_k && nat_le lg_k MAX_LG_K && nat_lt 0 start && nat_le start MAX_THETA && not (seed_hash seed == 0) then None else Some InvalidArgument
+    if nat_le MIN_LG_K lg_k && nat_le lg_k MAX_LG_K && nat_lt 0 start && nat_le start MAX_THETA && not
+    (seed_hash seed == 0)
+    then None
+    else Some InvalidArgument

@@ -18,4 +18,11 @@ put_step x = record { writes = λ y. y; refuses_existing = λ _. None; makes = S
 
 -- the step that merges an incoming entry
 abbrev pub merge_step : {X : Type 0} → (X → X → X) → (X → X → Bool) → X → Step X
-merge_step merges refuses incoming = record { writes = λ x. merges x incoming; refuses_existing = λ x. policy_refusal (refuses x incoming); makes = Some incoming; refuses_absent = None; allocates = true }
+merge_step merges refuses incoming =
+    record {
+      writes = λ x. merges x incoming;
+      refuses_existing = λ x. policy_refusal (refuses x incoming);
+      makes = Some incoming;
+      refuses_absent = None;
+      allocates = true;
+    }

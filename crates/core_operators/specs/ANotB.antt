@@ -12,12 +12,18 @@ use Rattle.core_laws.specs.Shown.{Shown, shown_value}
 -- an empty second
 abbrev pub difference_refusal : (seed_hash : ℕ) → Shown → Shown → Option ErrorKind
 difference_refusal seed_hash a b =
-    if a.empty then None else if not (seed_hash == a.seed_hash) then Some InvalidArgument else if b.empty then None else if not (seed_hash == b.seed_hash) then Some InvalidArgument else None
+    if a.empty then None
+    else if not (seed_hash == a.seed_hash) then Some InvalidArgument
+    else if b.empty then None
+    else if not (seed_hash == b.seed_hash) then Some InvalidArgument
+    else None
 
 -- the state is the difference of two sketches, the first with these entries, and a result to be ordered if `requested` is
 -- true or the first is
 abbrev pub IsDifference : {X : Type 0} → (X → ℕ) → (a : Shown) → List X → (b : Shown) → (requested : Bool) → Compact X → Type 0
-IsDifference key a entries b requested s = IsAnswer key (minus key hash_key (shown_value key a entries) (shown_value hash_key b b.hashes)) a.seed_hash (requested || a.ordered) s
+IsDifference key a entries b requested s =
+    IsAnswer key (minus key hash_key (shown_value key a entries) (shown_value hash_key b b.hashes)) a.seed_hash
+    (requested || a.ordered) s
 
 -- the entries below a theta whose keys others lack
 abbrev pub lacking_below : {X Y : Type 0} → (X → ℕ) → (Y → ℕ) → (theta : ℕ) → List X → List Y → List X

@@ -1,5 +1,6 @@
 -- Intersections.
-use Rattle.std.specs.Prelude.{ℕ, ◌≡◌, ◌==◌, ◌<◌, ◌^◌, ◌||◌, ◌&&◌, ◌⊎◌, not, ⊤, Bool, true, false, if◌then◌else◌, Option, Some, None, List, map, min, option_map, MatchOption}
+use Rattle.std.specs.Prelude.{ℕ, ◌≡◌, ◌==◌, ◌<◌, ◌^◌, ◌||◌, ◌&&◌, ◌⊎◌, not, ⊤, Bool, true, false, if◌then◌else◌}
+use Rattle.std.specs.Prelude.{Option, Some, None, List, map, min, option_map, MatchOption}
 use Rattle.std.specs.Option.{option_map_or}
 use Rattle.sketch_base.specs.Seed.{seed_hash}
 use Rattle.sketch_base.specs.declared.error.ErrorKind.{ErrorKind}
@@ -77,42 +78,93 @@ intersect_refusal i s = if is_settled i.result || s.empty then None else if i.se
 -- the new value is the intersection of the old value and the input's, and no entry of it has a mark
 abbrev pub IsMet : {X P : Type 0} → (X → ℕ) → (X → X → X) → (X → X → Bool) → (old new : Intersection X P) → Shown → List X → Type 0
 IsMet key merges refuses old new s listing =
-    option_map unmarked_value new.result ≡ Some (meet_next (fold_key key) (fold_merges key merges refuses) (option_map unmarked_value old.result) (unmarked_value (shown_value key s listing)))
+    option_map unmarked_value new.result
+    ≡ Some
+    (meet_next (fold_key key) (fold_merges key merges refuses) (option_map unmarked_value old.result)
+    (unmarked_value (shown_value key s listing)))
 
 -- an update broke off: neither the input nor the value is Empty, and memory ran out, or the policy refused the entries
 -- of a shared key below the lesser theta
-pub record IsCutShort {X : Type 0} (key : X → ℕ) (refuses : X → X → Bool) (old : Option (Sketch X)) (s : Shown) (entries : List X) (kind : ErrorKind) : Type 0 where
+pub record IsCutShort {X : Type 0} (key : X → ℕ) (refuses : X → X → Bool) (old : Option (Sketch X)) (s : Shown)
+    (entries : List X) (kind : ErrorKind) : Type 0 where
   pub nonempty : s.empty ≡ false
   pub unsettled : is_settled old ≡ false
-  pub why : (kind ≡ OutOfMemory) ⊎ ((kind ≡ Policy) × IsMergeRefused key refuses (below key (content_of old).entries (min (content_of old).theta s.theta)) entries)
+  pub why : (kind ≡ OutOfMemory)
+      ⊎ ((kind ≡ Policy)
+      × IsMergeRefused key refuses (below key (content_of old).entries (min (content_of old).theta s.theta))
+      entries)
 
 -- an error of an update, which leaves the intersection unchanged: that of `intersect_refusal`, or that of an update that
 -- broke off
-abbrev pub IsIntersectError : {X P : Type 0} → (key : X → ℕ) → (refuses : X → X → Bool) → (old new : Intersection X P) → Shown → List X → ErrorKind → Type 0
-IsIntersectError key refuses old new s listing e = (new ≡ old) × MatchOption (intersect_refusal old s) (IsCutShort key refuses old.result s listing e) (λ kind. e ≡ kind)
+abbrev pub IsIntersectError : {X P : Type 0}
+    → (key : X → ℕ)
+    → (refuses : X → X → Bool)
+    → (old new : Intersection X P)
+    → Shown
+    → List X
+    → ErrorKind
+    → Type 0
+IsIntersectError key refuses old new s listing e =
+    (new ≡ old)
+    × MatchOption (intersect_refusal old s) (IsCutShort key refuses old.result s listing e) (λ kind. e ≡ kind)
 
 -- a value is that of retained entries met with an input that isn't Empty, in folds
-abbrev pub IsMetMap : {X : Type 0} → (key : X → ℕ) → (merges : X → X → X) → (refuses : X → X → Bool) → (content : Retained X) → (theta : ℕ) → (listing : List X) → Option (Sketch X) → Type 0
+abbrev pub IsMetMap : {X : Type 0}
+    → (key : X → ℕ)
+    → (merges : X → X → X)
+    → (refuses : X → X → Bool)
+    → (content : Retained X)
+    → (theta : ℕ)
+    → (listing : List X)
+    → Option (Sketch X)
+    → Type 0
 IsMetMap key merges refuses content theta listing value =
-    option_map unmarked_value value ≡ Some (meet_next (fold_key key) (fold_merges key merges refuses) (Some (NonEmpty (unmarked content))) (NonEmpty (unmarked (record { entries = map_of key listing; theta = theta }))))
+    option_map unmarked_value value
+    ≡ Some
+    (meet_next (fold_key key) (fold_merges key merges refuses) (Some (NonEmpty (unmarked content)))
+    (NonEmpty (unmarked (record { entries = map_of key listing; theta = theta }))))
 
 -- the arriving entries whose keys retained ones have below theta, in their order, each merged into the retained one
-abbrev pub AreSharedFolds : {X : Type 0} → (key : X → ℕ) → (merges : X → X → X) → (refuses : X → X → Bool) → (content : List X) → (theta : ℕ) → (arriving : List X) → List X → Type 0
+abbrev pub AreSharedFolds : {X : Type 0}
+    → (key : X → ℕ)
+    → (merges : X → X → X)
+    → (refuses : X → X → Bool)
+    → (content : List X)
+    → (theta : ℕ)
+    → (arriving : List X)
+    → List X
+    → Type 0
 AreSharedFolds key merges refuses content theta arriving entries =
     map Value entries ≡ common (fold_key key) (λ y x. fold_merges key merges refuses x y) (map Value arriving) (map Value (below key content theta))
 
 -- an existing entry merged with an incoming one, if they have the same hash; otherwise none
-abbrev pub IsSharedFold : {X : Type 0} → (key : X → ℕ) → (merges : X → X → X) → (refuses : X → X → Bool) → (existing incoming : X) → (same_hash : Bool) → Option X → Type 0
+abbrev pub IsSharedFold : {X : Type 0}
+    → (key : X → ℕ)
+    → (merges : X → X → X)
+    → (refuses : X → X → Bool)
+    → (existing incoming : X)
+    → (same_hash : Bool)
+    → Option X
+    → Type 0
 IsSharedFold key merges refuses existing incoming same_hash entry =
     option_map Value entry ≡ if same_hash then Some (fold_merges key merges refuses (Value existing) (Value incoming)) else None
 
 -- why two entries weren't merged: memory ran out, or they have the same hash and the policy refuses them
 abbrev pub IsPairRefusal : {X : Type 0} → (refuses : X → X → Bool) → (existing incoming : X) → (same_hash : Bool) → ErrorKind → Type 0
-IsPairRefusal refuses existing incoming same_hash kind = (kind ≡ OutOfMemory) ⊎ ((kind ≡ Policy) × (same_hash ≡ true) × (refuses existing incoming ≡ true))
+IsPairRefusal refuses existing incoming same_hash kind =
+    (kind ≡ OutOfMemory) ⊎ ((kind ≡ Policy) × (same_hash ≡ true) × (refuses existing incoming ≡ true))
 
 -- an entry merged with the one that was found beside it, if there is one; it is the incoming entry if it arrives, and
 -- otherwise the existing one
-abbrev pub IsSharedPair : {X : Type 0} → (key : X → ℕ) → (merges : X → X → X) → (refuses : X → X → Bool) → (arrives : Bool) → (entry : X) → (found : Option X) → Option X → Type 0
+abbrev pub IsSharedPair : {X : Type 0}
+    → (key : X → ℕ)
+    → (merges : X → X → X)
+    → (refuses : X → X → Bool)
+    → (arrives : Bool)
+    → (entry : X)
+    → (found : Option X)
+    → Option X
+    → Type 0
 IsSharedPair key merges refuses arrives entry found result =
     let folds = fold_merges key merges refuses in
     option_map Value result ≡ option_map (λ other. if arrives then folds (Value other) (Value entry) else folds (Value entry) (Value other)) found

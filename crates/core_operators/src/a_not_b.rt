@@ -1,5 +1,6 @@
 //! Differences: the entries of one sketch whose hashes another lacks.
-ghost use Rattle.std.specs.Prelude.{◌≡◌, ◌+◌, ◌<◌, ◌≤◌, ◌==◌, ◌&&◌, ◌||◌, ◌++◌, if◌then◌else◌, true, false, None, length, map, IfOk};
+ghost use Rattle.std.specs.Prelude.{◌≡◌, ◌+◌, ◌<◌, ◌≤◌, ◌==◌, ◌&&◌, ◌||◌, ◌++◌, if◌then◌else◌, true, false, None};
+ghost use Rattle.std.specs.Prelude.{length, map, IfOk};
 ghost use Rattle.std.specs.Option.{ForSome};
 ghost use Rattle.core_compact.specs.CompactState.{IsCompactOf, shown_of, is_answer_ordered};
 ghost use Rattle.core_laws.specs.Maps.{IsAscending, below, map_of};
@@ -27,10 +28,10 @@ use std::alloc::{AllocError, Allocator};
 /// lesser theta is `MAX_THETA`, the result is empty. The result is ordered if `ordered` is true or `a` is ordered, if
 /// it is empty, or if it has one entry at the greatest theta.
 ///
-/// An input that isn't known to be ordered is copied and sorted. If `b` is such an input, with 1024 hashes or more and
-/// at least about half as many as `a`, most of its hashes that `a` lacks are dropped before the sort, by a test of one
-/// bit each. Then both are read side by side: whatever the hashes are, this compares at most as many pairs of hashes as
-/// both have.
+/// An input that isn't known to be ordered is copied and sorted. If `b` is such an input, with 1024 hashes or more
+/// and at least about half as many as `a`, most of its hashes that `a` lacks are dropped before the sort, by a test
+/// of one bit each. Then both are read side by side: whatever the hashes are, this compares at most as many pairs of
+/// hashes as both have.
 ///
 /// Refused with `InvalidArgument` if `a` isn't empty and it, or a `b` that isn't empty, has another seed hash than
 /// `seed_hash`, and with `OutOfMemory`. The inputs don't change.
@@ -69,7 +70,8 @@ where
     subtract::<S, T, T::Entry, A>(alloc, seed_hash, a, b, others.as_slice(), ordered)
 }
 
-/// The difference of two sketches. `others` are the entries of `b` in the order of its hashes, if they are in a slice.
+/// The difference of two sketches. `others` are the entries of `b` in the order of its hashes, if they are in a
+/// slice.
 fn subtract<S: EntrySketch, T: KeySketch, F: SketchEntry, A: Allocator + Clone>(
     alloc: A,
     seed_hash: u16,
@@ -170,9 +172,9 @@ fn is_empty_result(count: usize, theta: u64) -> bool
     count == 0 && theta == MAX_THETA
 }
 
-/// Clones of the entries of `a` below theta whose hashes `b` lacks, in ascending order. If `a` isn't known to be ordered,
-/// clones of its entries below theta are sorted first. `b` has `b_count` hashes, and `others` are its entries in their
-/// order, if they are in a slice.
+/// Clones of the entries of `a` below theta whose hashes `b` lacks, in ascending order. If `a` isn't known to be
+/// ordered, clones of its entries below theta are sorted first. `b` has `b_count` hashes, and `others` are its
+/// entries in their order, if they are in a slice.
 ///
 /// Counts each comparison of two hashes in `compared`, but those of the sorts: at most as many as both sketches have.
 fn kept_entries<S: EntrySketch, T: KeySketch, F: SketchEntry, A: Allocator + Clone>(
@@ -194,7 +196,10 @@ where
     requires b_sound { IsShown (T.shown b) }
     requires others { ForSome others (λ entries. map F.key entries.now ≡ (T.shown b).hashes) }
     ensures listed { map S.Entry.key (S.listing a) ≡ (S.shown a).hashes }
-    ensures ok { IfOk result (λ v. v.items ≡ lacking S.Entry.key hash_key (below S.Entry.key (map_of S.Entry.key (S.listing a)) theta) (T.shown b).hashes) }
+    ensures ok { IfOk result (λ v.
+        v.items
+        ≡ lacking S.Entry.key hash_key (below S.Entry.key (map_of S.Entry.key (S.listing a)) theta)
+        (T.shown b).hashes) }
     ensures refused { Refuses result None true }
     ensures grows { compared.old ≤ compared.new }
     ensures compared { compared.new ≤ compared.old + length (S.listing a) + length (T.shown b).hashes }
@@ -213,12 +218,12 @@ where
     )
 }
 
-/// Clones of ascending entries below theta whose hashes `b` lacks. If `b` is known to be ordered and its entries `others`
-/// are in a slice, they are read as they are. Otherwise a copy of its hashes below theta is read; if `b` isn't known to be
-/// ordered, it is sorted, and hashes that the entries surely lack are dropped before.
+/// Clones of ascending entries below theta whose hashes `b` lacks. If `b` is known to be ordered and its entries
+/// `others` are in a slice, they are read as they are. Otherwise a copy of its hashes below theta is read; if `b`
+/// isn't known to be ordered, it is sorted, and hashes that the entries surely lack are dropped before.
 ///
-/// Counts each comparison of two hashes in `compared`, but those of the sort: at most as many as there are entries and
-/// hashes. Tests of a filter's bits don't count.
+/// Counts each comparison of two hashes in `compared`, but those of the sort: at most as many as there are entries
+/// and hashes. Tests of a filter's bits don't count.
 fn lacking_hashes<E: SlotEntry + Clone, T: KeySketch, F: SketchEntry, A: Allocator + Clone>(
     alloc: A,
     entries: &[E],
@@ -234,7 +239,8 @@ fn lacking_hashes<E: SlotEntry + Clone, T: KeySketch, F: SketchEntry, A: Allocat
     requires b_in_order { (T.shown b).ordered ≡ b_ordered }
     requires b_sound { IsShown (T.shown b) }
     requires others { ForSome others (λ entries. map F.key entries.now ≡ (T.shown b).hashes) }
-    ensures ok { IfOk result (λ v. v.items ≡ lacking E.key hash_key (below E.key entries.now theta) (T.shown b).hashes) }
+    ensures ok { IfOk result (λ v.
+        v.items ≡ lacking E.key hash_key (below E.key entries.now theta) (T.shown b).hashes) }
     ensures refused { Refuses result None true }
     ensures grows { compared.old ≤ compared.new }
     ensures compared { compared.new ≤ compared.old + length entries.now + length (T.shown b).hashes }
@@ -260,7 +266,8 @@ pub(crate) fn state_of<E: SketchEntry + Drop, A: Allocator>(
         shown_of E.key (
         record
         { empty = false; entries = entries.items; theta = theta; seed_hash = seed_hash; ordered = ascending })) }
-    ensures { IsCompactOf E.key (record { entries = map_of E.key entries.items; theta = theta }) seed_hash (requested || ascending) result }
+    ensures { IsCompactOf E.key (record { entries = map_of E.key entries.items; theta = theta }) seed_hash
+        (requested || ascending) result }
 {
     if requested && !ascending {
         return CompactSketchState::non_empty(sorted_by_hash(entries), theta, seed_hash, true);

@@ -1,5 +1,6 @@
 //! The entries and the hashes of a sketch below a theta, in ascending order.
-ghost use Rattle.std.specs.Prelude.{◌≡◌, ◌<◌, ◌≤◌, ◌∷◌, [], ◌++◌, if◌then◌else◌, true, None, map, take, length, IfOk, OnOk};
+ghost use Rattle.std.specs.Prelude.{◌≡◌, ◌<◌, ◌≤◌, ◌∷◌, [], ◌++◌, if◌then◌else◌, true, None, map, take, length};
+ghost use Rattle.std.specs.Prelude.{IfOk, OnOk};
 ghost use Rattle.core_laws.specs.Maps.{IsAscending, below, map_of};
 ghost use Rattle.core_laws.specs.Entries.{hash_key, ClonesEqual};
 ghost use Rattle.core_laws.specs.Refusal.{Refuses};
@@ -17,8 +18,8 @@ use core_table::sorted_by_hash;
 use sketch_base::Error;
 use std::alloc::{AllocError, Allocator};
 
-/// Clones of the entries below theta that an iterator has left, in its order. The vector has room for `room` entries from
-/// the start. If the entries ascend, it stops at the first that is not below theta.
+/// Clones of the entries below theta that an iterator has left, in its order. The vector has room for `room` entries
+/// from the start. If the entries ascend, it stops at the first that is not below theta.
 fn entries_below<E: SlotEntry + Clone, A: Allocator>(
     alloc: A,
     items: EntryIter<'_, E>,
@@ -71,9 +72,9 @@ where
     Ok(sorted_by_hash(entries))
 }
 
-/// Takes the next entries of an iterator, and writes those that a filter admits to `found` after its first `count`, in
-/// their order, until `found` is full or no entry is left. Returns how many `found` has then. Which hashes are admitted
-/// is as good as random, so the loop has no branch on it.
+/// Takes the next entries of an iterator, and writes those that a filter admits to `found` after its first `count`,
+/// in their order, until `found` is full or no entry is left. Returns how many `found` has then. Which hashes are
+/// admitted is as good as random, so the loop has no branch on it.
 #[inline(always)]
 fn gather<'a, E: SlotEntry, A: Allocator>(
     items: &mut EntryIter<'a, E>,
@@ -101,8 +102,8 @@ fn gather<'a, E: SlotEntry, A: Allocator>(
     gathered
 }
 
-/// Clones of the entries that a filter admits of those that an iterator has left, in its order. The vector has room for
-/// `room` entries from the start.
+/// Clones of the entries that a filter admits of those that an iterator has left, in its order. The vector has room
+/// for `room` entries from the start.
 fn entries_admitted<E: SlotEntry + Clone, A: Allocator, B: Allocator>(
     alloc: A,
     items: EntryIter<'_, E>,
@@ -126,8 +127,8 @@ fn entries_admitted<E: SlotEntry + Clone, A: Allocator, B: Allocator>(
 }
 
 /// Clones of the entries of a sketch below theta, in ascending order. They are sorted if the sketch isn't known to be
-/// ordered; if a filter makes that quicker, most entries whose hashes `others` lack below theta are dropped before. The
-/// vector has room for `room` entries from the start. Refused with `OutOfMemory` alone.
+/// ordered; if a filter makes that quicker, most entries whose hashes `others` lack below theta are dropped before.
+/// The vector has room for `room` entries from the start. Refused with `OutOfMemory` alone.
 pub(crate) fn narrowed_entries<S: EntrySketch, F: SketchEntry, A: Allocator + Clone>(
     alloc: A,
     sketch: S,
@@ -154,8 +155,8 @@ where
     Ok(sorted_by_hash(entries))
 }
 
-/// The hashes below theta that an iterator has left, in its order. The vector has room for `room` hashes from the start.
-/// If the hashes ascend, it stops at the first that is not below theta.
+/// The hashes below theta that an iterator has left, in its order. The vector has room for `room` hashes from the
+/// start. If the hashes ascend, it stops at the first that is not below theta.
 fn hashes_below<T: KeySketch, A: Allocator>(
     alloc: A,
     hashes: T::Hashes,
@@ -180,8 +181,8 @@ fn hashes_below<T: KeySketch, A: Allocator>(
     Ok(keys)
 }
 
-/// The hashes of a sketch below theta, in ascending order. They are sorted if the sketch isn't known to be ordered. The
-/// vector has room for `room` hashes from the start. Refused with `OutOfMemory` alone.
+/// The hashes of a sketch below theta, in ascending order. They are sorted if the sketch isn't known to be ordered.
+/// The vector has room for `room` hashes from the start. Refused with `OutOfMemory` alone.
 pub(crate) fn ascending_hashes<T: KeySketch, A: Allocator>(
     alloc: A,
     sketch: T,
@@ -216,8 +217,8 @@ fn push_hashes<A: Allocator>(
 }
 
 /// Writes a hash to `found` after its first `count`, and returns their number, which counts this hash only if it is
-/// admitted. If `found` is full then, all are appended to `keys`, and the number is 0. There is no branch on whether it
-/// is admitted.
+/// admitted. If `found` is full then, all are appended to `keys`, and the number is 0. There is no branch on whether
+/// it is admitted.
 #[inline(always)]
 fn put_hash<A: Allocator>(
     keys: &mut Vec<ThetaEntry, A>,
@@ -250,7 +251,8 @@ fn hashes_admitted<T: KeySketch, A: Allocator, B: Allocator>(
     room: usize,
 ) -> Result<Vec<ThetaEntry, A>, Error>
     requires small { filter.now.shift < 64 }
-    ensures ok { IfOk result (λ v. v.items ≡ admitted hash_key filter.now.words.items filter.now.shift (T.rest hashes)) }
+    ensures ok { IfOk result (λ v.
+        v.items ≡ admitted hash_key filter.now.words.items filter.now.shift (T.rest hashes)) }
     ensures refused { Refuses result None true }
 {
     let mut keys = Vec::with_capacity(alloc, room)?;
@@ -264,9 +266,9 @@ fn hashes_admitted<T: KeySketch, A: Allocator, B: Allocator>(
     Ok(keys)
 }
 
-/// The hashes of a sketch below theta, in ascending order. They are sorted if the sketch isn't known to be ordered; if a
-/// filter makes that quicker, most hashes that `others` lack below theta are dropped before. The vector has room for
-/// `room` hashes from the start. Refused with `OutOfMemory` alone.
+/// The hashes of a sketch below theta, in ascending order. They are sorted if the sketch isn't known to be ordered;
+/// if a filter makes that quicker, most hashes that `others` lack below theta are dropped before. The vector has room
+/// for `room` hashes from the start. Refused with `OutOfMemory` alone.
 pub(crate) fn narrowed_hashes<T: KeySketch, F: SketchEntry, A: Allocator + Clone>(
     alloc: A,
     sketch: T,

@@ -13,7 +13,8 @@ const RANGES: u64 = 8;
 /// From this number of hashes on, dropping some by a filter is quicker than sorting them all.
 const MANY: usize = 1024;
 
-/// A filter is made only of a list that has at most about this many times as many entries as there are hashes to sort.
+/// A filter is made only of a list that has at most about this many times as many entries as there are hashes to
+/// sort.
 const MUCH_LONGER: usize = 2;
 
 /// A bit for each of equal ranges of hashes. If it isn't set, a list has no hash in this range.

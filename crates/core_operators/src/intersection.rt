@@ -1,7 +1,11 @@
 //! Intersections.
-ghost use Rattle.std.specs.Prelude.{◌≡◌, ◌==◌, ◌<◌, ◌^◌, ◌⊎◌, Some, None, true, false, is_some, if◌then◌else◌, length, min, IfOk, IfErr, OnOk};
+ghost use Rattle.std.specs.Prelude.{◌≡◌, ◌==◌, ◌<◌, ◌^◌, ◌⊎◌, Some, None, true, false, is_some, if◌then◌else◌};
+ghost use Rattle.std.specs.Prelude.{length, min, IfOk, IfErr, OnOk};
 ghost use Rattle.sketch_base.specs.Seed.{seed_hash};
-ghost use Rattle.core_operators.specs.Intersection.{Intersection, IsIntersection, IsMet, IsAnswerIfAny, new_intersection, outcome_value, content_of, seed_refusal, intersect_refusal, is_settled_outcome, is_begun, is_nothing_left, IsIntersectError, IsMetMap};
+ghost use Rattle.core_operators.specs.Intersection.{Intersection, IsIntersection, IsMet, IsAnswerIfAny};
+ghost use Rattle.core_operators.specs.Intersection.{new_intersection, outcome_value, content_of, seed_refusal};
+ghost use Rattle.core_operators.specs.Intersection.{intersect_refusal, is_settled_outcome, is_begun};
+ghost use Rattle.core_operators.specs.Intersection.{is_nothing_left, IsIntersectError, IsMetMap};
 ghost use Rattle.core_operators.specs.declared.intersection.Outcome.TheVariants.{Nothing, Held};
 ghost use Rattle.core_laws.specs.Refusal.{Refuses};
 ghost use Rattle.core_laws.specs.Values.{NonEmpty};
@@ -57,8 +61,8 @@ impl Outcome {
 
 /// An intersection of sketches, passed one by one.
 ///
-/// It has no value before its first input. Its value has the hashes that all inputs share, below their least theta; the
-/// policy combines the entries of a hash, in the order of the calls. The value is Empty once an input is, or once
+/// It has no value before its first input. Its value has the hashes that all inputs share, below their least theta;
+/// the policy combines the entries of a hash, in the order of the calls. The value is Empty once an input is, or once
 /// inputs that have hashes share none while theta is still the greatest. A refused update changes nothing.
 ///
 /// It keeps its entries in ascending order. An update reads them and its input side by side: whatever the hashes are,
@@ -132,14 +136,14 @@ impl<
     P: IntersectionMergePolicy<E> + Drop,
     A: Allocator + Clone,
 > IntersectionState<E, P, A> {
-    /// Intersects with a sketch. The first rule that applies is used: once Empty, the intersection accepts every sketch
-    /// unchecked and stays Empty; an empty sketch makes it Empty, and its seed is not checked; a sketch of another seed
-    /// is refused; the first sketch is copied as it is; with any other sketch, it keeps only the hashes that both have
-    /// below the lesser theta, and the policy combines each retained entry with the incoming one. If both had hashes,
-    /// none is left and theta is the greatest, the value becomes Empty.
+    /// Intersects with a sketch. The first rule that applies is used: once Empty, the intersection accepts every
+    /// sketch unchecked and stays Empty; an empty sketch makes it Empty, and its seed is not checked; a sketch of
+    /// another seed is refused; the first sketch is copied as it is; with any other sketch, it keeps only the hashes
+    /// that both have below the lesser theta, and the policy combines each retained entry with the incoming one. If
+    /// both had hashes, none is left and theta is the greatest, the value becomes Empty.
     ///
-    /// Refused with `InvalidArgument` for a sketch of another seed, with `OutOfMemory`, or with `Policy` if the policy
-    /// refuses the entries of a shared hash below the lesser theta; then nothing has changed.
+    /// Refused with `InvalidArgument` for a sketch of another seed, with `OutOfMemory`, or with `Policy` if the
+    /// policy refuses the entries of a shared hash below the lesser theta; then nothing has changed.
     pub fn update<S: EntrySketch<Entry = E>>(&mut self, sketch: S) -> Result<(), Error>
         requires clones_equal { ClonesEqual E.is_clone }
         ensures met { OnOk result (
@@ -147,7 +151,9 @@ impl<
             (S.listing sketch)) }
         ensures made_with { self.new ≡ record self.old { result = self.new.result } }
         ensures accepted { OnOk result (intersect_refusal self.old (S.shown sketch) ≡ None) }
-        ensures refused { IfErr result (IsIntersectError E.key (P.refuses self.old.policy) self.old self.new (S.shown sketch) (S.listing sketch)) }
+        ensures refused { IfErr result
+            (IsIntersectError E.key (P.refuses self.old.policy) self.old self.new (S.shown sketch)
+            (S.listing sketch)) }
         ensures sound { IsIntersection self.old }
         ensures content { IsRetained E.key (content_of self.old.result) }
     {
@@ -194,9 +200,9 @@ impl<
         }
     }
 
-    /// Returns its value, or `None` before its first input. The result is ordered if `ordered` is true, if it is empty,
-    /// or if it has one entry at the greatest theta. The intersection doesn't change. Refused with `OutOfMemory` alone,
-    /// and only if there is a value.
+    /// Returns its value, or `None` before its first input. The result is ordered if `ordered` is true, if it is
+    /// empty, or if it has one entry at the greatest theta. The intersection doesn't change. Refused with
+    /// `OutOfMemory` alone, and only if there is a value.
     pub fn to_compact_sketch_state(
         &self,
         ordered: bool,
@@ -220,8 +226,8 @@ impl<
     }
 }
 
-/// Keeps only those ascending entries whose hashes a sketch has too, below the lesser theta, and returns the outcome. The
-/// sketch isn't empty, and has this theta and order, and `count` hashes.
+/// Keeps only those ascending entries whose hashes a sketch has too, below the lesser theta, and returns the outcome.
+/// The sketch isn't empty, and has this theta and order, and `count` hashes.
 ///
 /// Refused with `OutOfMemory`, or with `Policy` if the policy refuses the entries of a shared hash below the lesser
 /// theta; then the entries and their theta are unchanged.
@@ -248,7 +254,8 @@ where
         (record { entries = entries.old.items; theta = own_theta.old }) theta (S.listing sketch)
         (outcome_value o (record { entries = entries.new.items; theta = own_theta.new }))) }
     ensures limited { IfOk result (λ _. length entries.new.items < 2 ^ 32) }
-    ensures retained { IfOk result (λ _. IsRetained S.Entry.key (record { entries = entries.new.items; theta = own_theta.new })) }
+    ensures retained { IfOk result (λ _.
+        IsRetained S.Entry.key (record { entries = entries.new.items; theta = own_theta.new })) }
     ensures unchanged { IfErr result (λ _. entries.new.items ≡ entries.old.items) }
     ensures same_theta { IfErr result (λ _. own_theta.new ≡ own_theta.old) }
     ensures refused { IfErr result (
@@ -276,8 +283,8 @@ where
     Ok(outcome)
 }
 
-/// The outcome if the intersection had `content` hashes, the sketch `arriving`, and both share `shared` below `theta`:
-/// Empty if both had some, share none, and theta is the greatest.
+/// The outcome if the intersection had `content` hashes, the sketch `arriving`, and both share `shared` below
+/// `theta`: Empty if both had some, share none, and theta is the greatest.
 fn outcome_of(theta: u64, content: usize, arriving: usize, shared: usize) -> Outcome
     ensures { result ≡ if is_nothing_left theta content arriving shared then Nothing else Held }
 {

@@ -1,4 +1,5 @@
-//! Union, intersection and difference of sketches, generic over every entry type, policy and view that keeps the laws.
+//! Union, intersection and difference of sketches, generic over every entry type, policy and view that keeps the
+//! laws.
 //!
 //! An operator takes views of sketches, and combines the entries of a shared hash by a policy. Its contract is an
 //! equation between the values of its inputs and its own value.

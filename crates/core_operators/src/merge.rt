@@ -1,5 +1,7 @@
 //! Merging the entries of a sketch into a table.
-ghost use Rattle.std.specs.Prelude.{◌≡◌, ◌^◌, ◌*◌, ◌/◌, ◌⊎◌, if◌then◌else◌, None, Some, [], ◌∷◌, true, length, map, MatchOption, IfOk, OnOk, OnErr, IfErr, IfSome, IsSome, IsTrue, ◌↔◌, ◌<◌, ◌≤◌, min};
+ghost use Rattle.std.specs.Prelude.{◌≡◌, ◌^◌, ◌*◌, ◌/◌, ◌⊎◌, if◌then◌else◌, None, Some, [], ◌∷◌, true, length, map};
+ghost use Rattle.std.specs.Prelude.{MatchOption, IfOk, OnOk, OnErr, IfErr, IfSome, IsSome, IsTrue, ◌↔◌, ◌<◌, ◌≤◌};
+ghost use Rattle.std.specs.Prelude.{min};
 ghost use Rattle.sketch_base.specs.declared.error.ErrorKind.TheVariants.{OutOfMemory};
 ghost use Rattle.core_laws.specs.Insertion.{upsert_refusal};
 ghost use Rattle.core_table.specs.HashTable.{after_insertion};
@@ -20,8 +22,8 @@ use core_table::SketchHashTable;
 use sketch_base::Error;
 use std::alloc::{AllocError, Allocator};
 
-/// The step that merges an incoming entry: it combines it with the retained entry of its hash, or clones it if there is
-/// none.
+/// The step that merges an incoming entry: it combines it with the retained entry of its hash, or clones it if there
+/// is none.
 pub(crate) struct MergeStep<'a, E: SketchEntry + Clone, P> {
     policy: &'a P,
     incoming: &'a E,
@@ -71,8 +73,8 @@ fn next_entry<'a, E: SlotEntry>(
     entries.next()
 }
 
-/// Whether a hash is not below one of two thetas. The thetas are compared one by one: the second is the table's, and an
-/// insertion that compares it again then reuses the result.
+/// Whether a hash is not below one of two thetas. The thetas are compared one by one: the second is the table's, and
+/// an insertion that compares it again then reuses the result.
 #[inline(always)]
 fn is_past_either(hash: u64, theta: u64, own_theta: u64) -> bool
     ensures { IsTrue result ↔ (min theta own_theta ≤ hash) }
@@ -80,12 +82,12 @@ fn is_past_either(hash: u64, theta: u64, own_theta: u64) -> bool
     hash >= theta || hash >= own_theta
 }
 
-/// How many entries of a sketch are merged whose slots are not near, before the rest is merged by way of a list. A list
-/// takes about as long as so many searches through all entries.
+/// How many entries of a sketch are merged whose slots are not near, before the rest is merged by way of a list. A
+/// list takes about as long as so many searches through all entries.
 const MOST_FAR: usize = 128;
 
-/// Merges an entry into the table of a union, and returns whether it did. It doesn't, and nothing changes, if the slot of
-/// its hash isn't near and `far` is 0; if it isn't near and `far` isn't 0, it takes 1 from that.
+/// Merges an entry into the table of a union, and returns whether it did. It doesn't, and nothing changes, if the
+/// slot of its hash isn't near and `far` is 0; if it isn't near and `far` isn't 0, it takes 1 from that.
 #[inline(always)]
 fn merge_one<E: SlotEntry + Clone, P: UnionMergePolicy<E>, A: Allocator + Clone>(
     table: &mut SketchHashTable<E, A>,
@@ -142,10 +144,10 @@ fn place_by_halves<E: SketchEntry>(entries: &[E], hash: u64) -> Option<usize>
         .ok()
 }
 
-/// Merges the entries from the hash `from` to below theta into the table of a union, in their order, without searching
-/// its slots: the table's entries are taken into an ascending list, in which each incoming hash is sought by halves, and
-/// laid out again at the end, or when there are as many as the table may have. So n entries and m incoming ones take
-/// O((n + m) log(n + m)), however many hashes share a path.
+/// Merges the entries from the hash `from` to below theta into the table of a union, in their order, without
+/// searching its slots: the table's entries are taken into an ascending list, in which each incoming hash is sought
+/// by halves, and laid out again at the end, or when there are as many as the table may have. So n entries and m
+/// incoming ones take O((n + m) log(n + m)), however many hashes share a path.
 #[inline(never)]
 fn merge_listed<E: SlotEntry + Clone, P: UnionMergePolicy<E>, A: Allocator + Clone>(
     table: &mut SketchHashTable<E, A>,
@@ -201,9 +203,9 @@ fn merge_listed<E: SlotEntry + Clone, P: UnionMergePolicy<E>, A: Allocator + Clo
     }
 }
 
-/// Merges ascending entries into the table of a union, in their order. It stops at the first that is not below theta or
-/// that the table screens; the policy never sees those. It is a loop of its own because each entry then takes half as
-/// many instructions as in a loop that also walks over slots or tests the order.
+/// Merges ascending entries into the table of a union, in their order. It stops at the first that is not below theta
+/// or that the table screens; the policy never sees those. It is a loop of its own because each entry then takes half
+/// as many instructions as in a loop that also walks over slots or tests the order.
 #[inline(never)]
 fn merge_ascending<E: SlotEntry + Clone, P: UnionMergePolicy<E>, A: Allocator + Clone>(
     table: &mut SketchHashTable<E, A>,
@@ -214,9 +216,12 @@ fn merge_ascending<E: SlotEntry + Clone, P: UnionMergePolicy<E>, A: Allocator + 
     requires clones_equal { ClonesEqual E.is_clone }
     requires ascending { IsAscending E.key entries.now }
     requires of_sketch { MIN_LG_K ≤ table.old.map.lg_nom }
-    ensures after { OnOk result (HasMerged E.key (P.merges policy.now) (P.refuses policy.now) entries.now theta table.old.map table.new.map) }
+    ensures after { OnOk result
+        (HasMerged E.key (P.merges policy.now) (P.refuses policy.now) entries.now theta table.old.map
+        table.new.map) }
     ensures made_with { table.new.map ≡ record table.old.map { kept = table.new.map.kept } }
-    ensures refused { IfErr result (IsMergeRefusal E.key (P.refuses policy.now) table.old.map.kept.entries theta entries.now) }
+    ensures refused { IfErr result
+        (IsMergeRefusal E.key (P.refuses policy.now) table.old.map.kept.entries theta entries.now) }
 {
     let mut far = MOST_FAR;
     let mut left = entries;
@@ -275,9 +280,9 @@ fn clones_of<E: SlotEntry + Clone, A: Allocator>(
     Ok(clones)
 }
 
-/// Merges the entries of a sketch whose hashes are from `from` to below theta into the table of a union, in their order;
-/// the policy never sees the others. If they ascend, it stops at the first that is not below theta or that the table
-/// screens.
+/// Merges the entries of a sketch whose hashes are from `from` to below theta into the table of a union, in their
+/// order; the policy never sees the others. If they ascend, it stops at the first that is not below theta or that the
+/// table screens.
 pub(crate) fn merge_entries<S: EntrySketch, P: UnionMergePolicy<S::Entry>, A: Allocator + Clone>(
     table: &mut SketchHashTable<S::Entry, A>,
     sketch: S,

@@ -1,14 +1,16 @@
 //! Merging the entries of many sketches into a table, one range of hashes after another.
 //!
-//! Of many sketches whose hashes ascend, only those with the least hashes belong to a union. So the least hashes of all
-//! are merged first, up to a bound below which the nominal entries are expected. If these are found, the rest of each
-//! sketch is never read.
-ghost use Rattle.std.specs.Prelude.{◌≡◌, ◌<◌, ◌≤◌, ◌^◌, if◌then◌else◌, None, Some, true, false, IfOk, IfErr, OnOk, flat_map, map, min};
+//! Of many sketches whose hashes ascend, only those with the least hashes belong to a union. So the least hashes of
+//! all are merged first, up to a bound below which the nominal entries are expected. If these are found, the rest of
+//! each sketch is never read.
+ghost use Rattle.std.specs.Prelude.{◌≡◌, ◌<◌, ◌≤◌, ◌^◌, if◌then◌else◌, None, Some, true, false, IfOk, IfErr, OnOk};
+ghost use Rattle.std.specs.Prelude.{flat_map, map, min};
 ghost use Rattle.std.specs.List.{AllByRecursion};
 ghost use Rattle.sketch_base.specs.declared.error.ErrorKind.TheVariants.{InvalidArgument};
 ghost use Rattle.core_laws.specs.Entries.{ClonesEqual};
 ghost use Rattle.core_laws.specs.Refusal.{Refuses};
-ghost use Rattle.core_operators.specs.Union.{IsInput, all_empty, least_theta, share_seed, at_or_above, HasMerged, HasMergedAll, IsRangeRefusal, IsAllRefusal};
+ghost use Rattle.core_operators.specs.Union.{IsInput, all_empty, least_theta, share_seed, at_or_above, HasMerged};
+ghost use Rattle.core_operators.specs.Union.{HasMergedAll, IsRangeRefusal, IsAllRefusal};
 
 use crate::merge::merge_entries;
 use crate::view::{EntrySketch, ThetaFamilySketchMetadata};
@@ -34,7 +36,8 @@ pub(crate) fn inputs_of<S: EntrySketch>(sketches: &[S], seed_hash: u16) -> Resul
     ensures empty { IfOk result (λ c. c.empty ≡ all_empty S.shown sketches.now) }
     ensures theta { IfOk result (λ c. c.theta ≡ least_theta S.shown sketches.now) }
     ensures inputs { OnOk result (AllByRecursion (λ s. IsInput S.Entry.key (S.shown s) (S.listing s)) sketches.now) }
-    ensures refused { Refuses result (if share_seed S.shown seed_hash sketches.now then None else Some InvalidArgument) false }
+    ensures refused { Refuses result
+        (if share_seed S.shown seed_hash sketches.now then None else Some InvalidArgument) false }
 {
     let mut inputs = Inputs {
         empty: true,
@@ -120,8 +123,8 @@ fn wanted_of(lg_k: u8) -> u64 {
     nominal.saturating_add(nominal / 4)
 }
 
-/// Merges the entries of sketches whose hashes are from `from` to below `to` into the table of a union, one sketch after
-/// another.
+/// Merges the entries of sketches whose hashes are from `from` to below `to` into the table of a union, one sketch
+/// after another.
 fn merge_range<S: EntrySketch, P: UnionMergePolicy<S::Entry>, A: Allocator + Clone>(
     table: &mut SketchHashTable<S::Entry, A>,
     sketches: &[S],
@@ -155,8 +158,8 @@ where
     Ok(())
 }
 
-/// Merges the entries of sketches below theta into the table of a union. If all sketches are ordered, it does so range by
-/// range, until the table's theta is in the ranges that were merged.
+/// Merges the entries of sketches below theta into the table of a union. If all sketches are ordered, it does so
+/// range by range, until the table's theta is in the ranges that were merged.
 pub(crate) fn merge_all<S: EntrySketch, P: UnionMergePolicy<S::Entry>, A: Allocator + Clone>(
     table: &mut SketchHashTable<S::Entry, A>,
     sketches: &[S],

@@ -1,5 +1,6 @@
 //! A difference of two ascending lists, in one pass over both or by looking up the entries of the one in the other.
-ghost use Rattle.std.specs.Prelude.{◌≡◌, ◌+◌, ◌*◌, ◌<◌, ◌≤◌, ◌==◌, ◌&&◌, ◌||◌, ◌++◌, if◌then◌else◌, true, None, length, map, take, IfOk, OnOk};
+ghost use Rattle.std.specs.Prelude.{◌≡◌, ◌+◌, ◌*◌, ◌<◌, ◌≤◌, ◌==◌, ◌&&◌, ◌||◌, ◌++◌, if◌then◌else◌, true, None};
+ghost use Rattle.std.specs.Prelude.{length, map, take, IfOk, OnOk};
 ghost use Rattle.core_laws.specs.Maps.{IsAscending, below};
 ghost use Rattle.core_operators.specs.ANotB.{lacking_below};
 ghost use Rattle.core_operators.specs.Search.{AreFewLookUps, is_much_longer};
@@ -36,8 +37,8 @@ pub(crate) fn number_if(so: bool) -> usize
 
 /// Writes the entries below theta whose hashes `others` lacks to the front of `kept`, in their order, until `kept` is
 /// full or one of the lists ends or theta is reached. Both lists ascend. Which of two hashes is less is as good as
-/// random, so the loop has no branch on it. Counts each comparison of two hashes in `compared`; a comparison moves past
-/// one entry or two.
+/// random, so the loop has no branch on it. Counts each comparison of two hashes in `compared`; a comparison moves
+/// past one entry or two.
 #[inline(always)]
 fn sift<'a, 'b, E: SketchEntry, F: SketchEntry>(
     entries: &'a [E],
@@ -126,9 +127,9 @@ fn push_below<E: SketchEntry + Clone + Drop, A: Allocator>(
     Ok(())
 }
 
-/// Appends clones of the entries below theta whose hashes `others` lacks, by a binary search for each entry. Both lists
-/// ascend. Counts each comparison of two hashes in `compared`: at most k for each entry, if there are fewer than 2^k
-/// others.
+/// Appends clones of the entries below theta whose hashes `others` lacks, by a binary search for each entry. Both
+/// lists ascend. Counts each comparison of two hashes in `compared`: at most k for each entry, if there are fewer
+/// than 2^k others.
 fn push_lacking<E: SketchEntry + Clone + Drop, F: SketchEntry, A: Allocator>(
     kept: &mut Vec<E, A>,
     entries: &[E],
@@ -139,7 +140,8 @@ fn push_lacking<E: SketchEntry + Clone + Drop, F: SketchEntry, A: Allocator>(
     requires clones_equal { ClonesEqual E.is_clone }
     requires ascending { IsAscending E.key entries.now }
     requires others_ascend { IsAscending F.key others.now }
-    ensures kept { OnOk result (kept.new.items ≡ kept.old.items ++ lacking E.key F.key (below E.key entries.now theta) others.now) }
+    ensures kept { OnOk result
+        (kept.new.items ≡ kept.old.items ++ lacking E.key F.key (below E.key entries.now theta) others.now) }
     ensures grows { compared.old ≤ compared.new }
     ensures compared { AreFewLookUps compared.old compared.new (length entries.now) (length others.now) }
 {

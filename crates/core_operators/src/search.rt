@@ -7,7 +7,8 @@ ghost use Rattle.core_operators.specs.Search.{is_much_longer};
 use core_laws::SketchEntry;
 use core_slots::Count;
 
-/// A list is searched, and not read from end to end, if it has more than this many times as many entries as the other.
+/// A list is searched, and not read from end to end, if it has more than this many times as many entries as the
+/// other.
 const MUCH_LONGER: usize = 128;
 
 /// Whether the entries of a list of `count` entries are looked up in another of `other_count`: it has more than 128

@@ -1,12 +1,14 @@
 //! The entries that two ascending lists share, and those that a list shares with a sketch.
-ghost use Rattle.std.specs.Prelude.{◌≡◌, ◌==◌, ◌+◌, ◌<◌, ◌≤◌, ◌^◌, [], ◌∷◌, ◌++◌, None, true, if◌then◌else◌, map, length, IfOk, IfErr, OnOk};
+ghost use Rattle.std.specs.Prelude.{◌≡◌, ◌==◌, ◌+◌, ◌<◌, ◌≤◌, ◌^◌, [], ◌∷◌, ◌++◌, None, true, if◌then◌else◌, map};
+ghost use Rattle.std.specs.Prelude.{length, IfOk, IfErr, OnOk};
 ghost use Rattle.std.specs.Option.{option_map_or, option_copied};
 ghost use Rattle.core_laws.specs.Maps.{IsAscending, map_of};
 ghost use Rattle.core_laws.specs.Refusal.{Refuses};
 ghost use Rattle.core_laws.specs.Shown.{IsShown};
 ghost use Rattle.core_laws.specs.Entries.{ClonesEqual};
 ghost use Rattle.core_operators.specs.Union.{IsMergeRefusal};
-ghost use Rattle.core_operators.specs.Intersection.{AreSharedFolds, IsSharedFold, IsSharedPair, IsPairRefusal, IsFoundRefusal};
+ghost use Rattle.core_operators.specs.Intersection.{AreSharedFolds, IsSharedFold, IsSharedPair, IsPairRefusal};
+ghost use Rattle.core_operators.specs.Intersection.{IsFoundRefusal};
 ghost use Rattle.core_operators.specs.Search.{AreFewLookUps, is_much_longer};
 
 use crate::ascending::narrowed_entries;
@@ -56,8 +58,8 @@ fn shared_entry<E: SketchEntry + Clone, P: IntersectionMergePolicy<E>>(
     Ok(Some(merged))
 }
 
-/// Combines an entry with one of its hash by the policy, if one was found. The entry is the incoming one if `arrives` is
-/// true; otherwise it is the retained one.
+/// Combines an entry with one of its hash by the policy, if one was found. The entry is the incoming one if `arrives`
+/// is true; otherwise it is the retained one.
 fn shared_pair<E: SketchEntry + Clone, P: IntersectionMergePolicy<E>>(
     entry: &E,
     found: Option<&E>,
@@ -86,7 +88,8 @@ fn push_found<E: Drop, A: Allocator>(
     entries: &mut Vec<E, A>,
     found: Option<E>,
 ) -> Result<(), AllocError>
-    ensures { OnOk result (entries.new.items ≡ option_map_or (λ x. entries.old.items ++ x ∷ []) found entries.old.items) }
+    ensures { OnOk result
+        (entries.new.items ≡ option_map_or (λ x. entries.old.items ++ x ∷ []) found entries.old.items) }
 {
     match found {
         None => Ok(()),
@@ -97,11 +100,11 @@ fn push_found<E: Drop, A: Allocator>(
     }
 }
 
-/// The entries that two ascending lists share below theta, in one pass over both: each entry of `content`, combined by
-/// the policy with the one of `arriving`. Refused with `OutOfMemory`, or with `Policy` if the policy refuses.
+/// The entries that two ascending lists share below theta, in one pass over both: each entry of `content`, combined
+/// by the policy with the one of `arriving`. Refused with `OutOfMemory`, or with `Policy` if the policy refuses.
 ///
-/// Counts each comparison of two hashes in `compared`: at least one for each shared entry, and at most as many as both
-/// lists have entries.
+/// Counts each comparison of two hashes in `compared`: at least one for each shared entry, and at most as many as
+/// both lists have entries.
 fn shared_in_pass<E: SketchEntry + Clone + Drop, P: IntersectionMergePolicy<E>, A: Allocator>(
     alloc: A,
     content: &[E],
@@ -144,7 +147,8 @@ fn shared_in_pass<E: SketchEntry + Clone + Drop, P: IntersectionMergePolicy<E>, 
 /// `arrives` is true, the entries of `short` are the incoming ones; otherwise those of `long` are. The policy and the
 /// refusals are as in `shared_in_pass`.
 ///
-/// Counts each comparison of two hashes in `compared`: at most k for each entry of `short`, if `long` has fewer than 2^k.
+/// Counts each comparison of two hashes in `compared`: at most k for each entry of `short`, if `long` has fewer than
+/// 2^k.
 fn shared_by_halves<E: SketchEntry + Clone + Drop, P: IntersectionMergePolicy<E>, A: Allocator>(
     alloc: A,
     short: &[E],
@@ -179,12 +183,13 @@ fn shared_by_halves<E: SketchEntry + Clone + Drop, P: IntersectionMergePolicy<E>
     Ok(entries)
 }
 
-/// The entries that two ascending lists share below theta: each entry of `content`, combined by the policy with the one
-/// of `arriving`. If one list is much longer, the entries of the other are looked up in it. Refused with `OutOfMemory`,
-/// or with `Policy` if the policy refuses.
+/// The entries that two ascending lists share below theta: each entry of `content`, combined by the policy with the
+/// one of `arriving`. If one list is much longer, the entries of the other are looked up in it. Refused with
+/// `OutOfMemory`, or with `Policy` if the policy refuses.
 ///
-/// Counts each comparison of two hashes in `compared`: at least one for each shared entry, and at most as many as both
-/// lists have entries. If one list is much longer and has fewer than 2^k entries, at most k for each of the other.
+/// Counts each comparison of two hashes in `compared`: at least one for each shared entry, and at most as many as
+/// both lists have entries. If one list is much longer and has fewer than 2^k entries, at most k for each of the
+/// other.
 fn shared_entries<E: SketchEntry + Clone + Drop, P: IntersectionMergePolicy<E>, A: Allocator>(
     alloc: A,
     content: &[E],
@@ -215,9 +220,9 @@ fn shared_entries<E: SketchEntry + Clone + Drop, P: IntersectionMergePolicy<E>, 
     shared_in_pass(alloc, content, arriving, policy, theta, compared)
 }
 
-/// The entries that an ascending list and a sketch share below theta, combined by the policy, in ascending order. If the
-/// sketch isn't known to be ordered, clones of its entries below theta are sorted first, but for entries whose hashes the
-/// list surely lacks. It has `count` entries.
+/// The entries that an ascending list and a sketch share below theta, combined by the policy, in ascending order. If
+/// the sketch isn't known to be ordered, clones of its entries below theta are sorted first, but for entries whose
+/// hashes the list surely lacks. It has `count` entries.
 ///
 /// Counts each comparison of two hashes in `compared`, but those of the sort: at least one for each shared entry, and
 /// at most as many as both have entries. Tests of a filter's bits don't count.
@@ -244,7 +249,8 @@ where
         (map_of S.Entry.key (S.listing sketch)) v.items) }
     ensures listed { map S.Entry.key (S.listing sketch) ≡ (S.shown sketch).hashes }
     ensures sound { IsShown (S.shown sketch) }
-    ensures refused { IfErr result (IsMergeRefusal S.Entry.key (P.refuses policy.now) content.now.items theta (S.listing sketch)) }
+    ensures refused { IfErr result
+        (IsMergeRefusal S.Entry.key (P.refuses policy.now) content.now.items theta (S.listing sketch)) }
     ensures compares { IfOk result (λ v. compared.old + length v.items ≤ compared.new) }
     ensures compared { compared.new ≤ compared.old + length content.now.items + length (S.listing sketch) }
 {

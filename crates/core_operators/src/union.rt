@@ -5,7 +5,10 @@ ghost use Rattle.core_compact.specs.CompactState.{IsAnswer};
 ghost use Rattle.core_laws.specs.Refusal.{Refuses};
 ghost use Rattle.core_laws.specs.Cuts.{IsRetained};
 ghost use Rattle.core_laws.specs.Settings.{settings_refusal};
-ghost use Rattle.core_operators.specs.Union.{Union, empty_union, union_value, update_refusal, lower_refusal, lower_allocates, lowered, failure, IsUnion, JoinsShown, UnitesShown, IsUpdateError, all_empty, update_all_refusal, JoinsAll, UnitesAll, IsUpdateAllError};
+ghost use Rattle.core_operators.specs.Union.{Union, empty_union, union_value, update_refusal, lower_refusal};
+ghost use Rattle.core_operators.specs.Union.{lower_allocates, lowered, failure, IsUnion, JoinsShown, UnitesShown};
+ghost use Rattle.core_operators.specs.Union.{IsUpdateError, all_empty, update_all_refusal, JoinsAll, UnitesAll};
+ghost use Rattle.core_operators.specs.Union.{IsUpdateAllError};
 ghost use Rattle.core_laws.specs.Values.{cut_value};
 ghost use Rattle.core_laws.specs.Entries.{ClonesEqual};
 
@@ -23,12 +26,13 @@ use std::marker::Model;
 
 /// A union of sketches, passed one by one or many in a call.
 ///
-/// Its value has the entries of all its inputs below their least theta and its own starting theta, cut to its k nominal
-/// entries of least hash; the policy combines the entries of a key that inputs share, in the order of the inputs. If a
-/// merge breaks off, the union has failed: until it is reset, `update`, `update_all`, `lower_lg_k` and
+/// Its value has the entries of all its inputs below their least theta and its own starting theta, cut to its k
+/// nominal entries of least hash; the policy combines the entries of a key that inputs share, in the order of the
+/// inputs. If a merge breaks off, the union has failed: until it is reset, `update`, `update_all`, `lower_lg_k` and
 /// `to_compact_sketch_state` are refused with `Failed`.
 ///
-/// Its theta is at most its table's. Entries of the table at or above the union's theta no longer belong to the union.
+/// Its theta is at most its table's. Entries of the table at or above the union's theta no longer belong to the
+/// union.
 #[derive(Drop)]
 pub struct UnionState<E: SlotEntry, P, A: Allocator = Global> {
     empty: bool,
@@ -44,15 +48,37 @@ impl<E: SlotEntry, P, A: Allocator> Model for UnionState<E, P, A> {
 
     ghost Value = { Union E P };
 
-    ghost view = { λ u. record { empty = u.empty; failed = u.failed; content = retained E.key u.table.map.kept.entries u.theta; lg_k = u.table.map.lg_nom; start = u.table.map.start; seed_hash = u.table.map.seed_hash; policy = u.policy } };
+    ghost view = { λ u.
+        let t = u.table.map in
+        record {
+          empty = u.empty;
+          failed = u.failed;
+          content = retained E.key t.kept.entries u.theta;
+          lg_k = t.lg_nom;
+          start = t.start;
+          seed_hash = t.seed_hash;
+          policy = u.policy;
+        } };
 
-    ghost invariant = { λ u. IsUnionBelow u.table.map.kept.theta (record { empty = u.empty; failed = u.failed; content = retained E.key u.table.map.kept.entries u.theta; lg_k = u.table.map.lg_nom; start = u.table.map.start; seed_hash = u.table.map.seed_hash; policy = u.policy }) };
+    ghost invariant = { λ u.
+        IsUnionBelow u.table.map.kept.theta
+        (record {
+          empty = u.empty;
+          failed = u.failed;
+          content = retained E.key u.table.map.kept.entries u.theta;
+          lg_k = u.table.map.lg_nom;
+          start = u.table.map.start;
+          seed_hash = u.table.map.seed_hash;
+          policy = u.policy;
+        }) };
 }
 
 impl<E: SlotEntry + Drop, P: Drop, A: Allocator + Drop> UnionState<E, P, A> {
-    /// An empty union of 2^`lg_k` nominal entries, with `lg_k` from 4 to 26, and a starting theta from 1 to `MAX_THETA`.
+    /// An empty union of 2^`lg_k` nominal entries, with `lg_k` from 4 to 26, and a starting theta from 1 to
+    /// `MAX_THETA`.
     ///
-    /// Refused with `InvalidArgument` outside these ranges and for a seed whose seed hash is 0, and with `OutOfMemory`.
+    /// Refused with `InvalidArgument` outside these ranges and for a seed whose seed hash is 0, and with
+    /// `OutOfMemory`.
     pub fn new(
         alloc: A,
         lg_k: u8,
@@ -105,7 +131,9 @@ impl<E: SlotEntry + Clone, P: UnionMergePolicy<E> + Drop, A: Allocator + Clone> 
             UnitesShown E.key (P.merges self.old.policy) (P.refuses self.old.policy) self.old self.new
             (S.shown sketch) (S.listing sketch)) }
         ensures accepted { OnOk result (update_refusal self.old (S.shown sketch) ≡ None) }
-        ensures refused { IfErr result (IsUpdateError E.key (P.refuses self.old.policy) self.old self.new (S.shown sketch) (S.listing sketch)) }
+        ensures refused { IfErr result
+            (IsUpdateError E.key (P.refuses self.old.policy) self.old self.new (S.shown sketch)
+            (S.listing sketch)) }
         ensures sound { IsUnion self.old }
         ensures content { IsRetained E.key self.old.content }
     {
@@ -145,14 +173,15 @@ impl<E: SlotEntry + Clone, P: UnionMergePolicy<E> + Drop, A: Allocator + Clone> 
         }
     }
 
-    /// Merges sketches into the union, with the value of one `update` after another, in their order, if these succeed.
-    /// Empty sketches change nothing, and their seeds are not checked. If all sketches that aren't empty are ordered,
-    /// each is read about as far as the value needs its hashes.
+    /// Merges sketches into the union, with the value of one `update` after another, in their order, if these
+    /// succeed. Empty sketches change nothing, and their seeds are not checked. If all sketches that aren't empty are
+    /// ordered, each is read about as far as the value needs its hashes.
     ///
     /// Refused with `Failed` if the union has failed, whatever the inputs, and with `InvalidArgument` if one of the
     /// sketches that aren't empty has another seed; then nothing has changed. Refused with `OutOfMemory`, or with
-    /// `Policy` if the policy refuses the entries of a key below the thetas of the union and of all sketches; then the
-    /// union has failed. Whether the policy is called for a key at or above the theta of the result is unspecified.
+    /// `Policy` if the policy refuses the entries of a key below the thetas of the union and of all sketches; then
+    /// the union has failed. Whether the policy is called for a key at or above the theta of the result is
+    /// unspecified.
     pub fn update_all<S: EntrySketch<Entry = E>>(&mut self, sketches: &[S]) -> Result<(), Error>
         requires clones_equal { ClonesEqual E.is_clone }
         ensures skipped { OnOk result (all_empty S.shown sketches.now ≡ true → self.new ≡ self.old) }
@@ -199,12 +228,14 @@ impl<E: SlotEntry + Clone, P: UnionMergePolicy<E> + Drop, A: Allocator + Clone> 
     /// and later values have no more, also after a `reset`. An empty union stays empty. With its own `lg_k` nothing
     /// changes, and nothing is allocated.
     ///
-    /// Refused, in this order, with `Failed` if the union has failed, with `InvalidArgument` if `lg_k` isn't from 4 to
-    /// its own, and with `OutOfMemory`; then the union is unchanged, because the new table is built beside the old one.
+    /// Refused, in this order, with `Failed` if the union has failed, with `InvalidArgument` if `lg_k` isn't from 4
+    /// to its own, and with `OutOfMemory`; then the union is unchanged, because the new table is built beside the old
+    /// one.
     pub fn lower_lg_k(&mut self, lg_k: u8) -> Result<(), Error>
         requires clones_equal { ClonesEqual E.is_clone }
         ensures after { OnOk result (self.new ≡ lowered E.key lg_k self.old) }
-        ensures value { OnOk result (union_value E.key self.new ≡ cut_value E.key (2 ^ lg_k) (union_value E.key self.old)) }
+        ensures value { OnOk result
+            (union_value E.key self.new ≡ cut_value E.key (2 ^ lg_k) (union_value E.key self.old)) }
         ensures err { OnErr result (self.new ≡ self.old) }
         ensures refused { Refuses result (lower_refusal self.old lg_k) (lower_allocates self.old lg_k) }
         ensures sound { IsUnion self.old }
@@ -234,7 +265,8 @@ impl<E: SlotEntry + Clone, P: UnionMergePolicy<E> + Drop, A: Allocator + Clone> 
     }
 
     /// Returns its value. The result is ordered if `ordered` is true, if it is empty, or if it has one entry at the
-    /// greatest theta. The union doesn't change. Refused with `Failed` if the union has failed, and with `OutOfMemory`.
+    /// greatest theta. The union doesn't change. Refused with `Failed` if the union has failed, and with
+    /// `OutOfMemory`.
     pub fn to_compact_sketch_state(&self, ordered: bool) -> Result<CompactSketchState<E, A>, Error>
         requires clones_equal { ClonesEqual E.is_clone }
         ensures ok { IfOk result (IsAnswer E.key (union_value E.key self.now) self.now.seed_hash ordered) }

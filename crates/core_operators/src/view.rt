@@ -28,8 +28,8 @@ pub enum ThetaFamilySketchMetadata {
     },
 }
 
-/// A sketch whose hashes can be read. They are distinct, from 1 to below theta, as many as `num_retained`, ascending if
-/// the sketch is ordered, and none if it is empty.
+/// A sketch whose hashes can be read. They are distinct, from 1 to below theta, as many as `num_retained`, ascending
+/// if the sketch is ordered, and none if it is empty.
 pub trait KeySketch: Copy {
     type Hashes: Iterator<Item = u64>;
 
@@ -50,7 +50,9 @@ pub trait KeySketch: Copy {
         ensures sound { IsShown (shown self) };
 
     /// An iterator yields the hashes that it has left, in their order.
-    ghost yields: { (s : Self.Hashes) (r : Option ℕ) (t : Self.Hashes) → Self.Hashes.next_gives s r t → YieldsFirst rest s r t };
+    ghost yields: { (s : Self.Hashes) (r : Option ℕ) (t : Self.Hashes)
+        → Self.Hashes.next_gives s r t
+        → YieldsFirst rest s r t };
 
     /// `next` may always be called.
     ghost may_go_on: { (s : Self.Hashes) → Self.Hashes.can_next s };

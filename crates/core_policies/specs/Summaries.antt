@@ -1,5 +1,6 @@
 -- Updates and merges of tuples: how policies change the summary of a hash.
-use Rattle.std.specs.Prelude.{ℕ, ◌≡◌, ◌==◌, refl, Bool, true, if◌then◌else◌, List, [], ◌∷◌, ◌++◌, Option, Some, None, is_none, option_map}
+use Rattle.std.specs.Prelude.{ℕ, ◌≡◌, ◌==◌, refl, Bool, true, if◌then◌else◌, List, [], ◌∷◌, ◌++◌, Option, Some}
+use Rattle.std.specs.Prelude.{None, is_none, option_map}
 use Rattle.std.proofs.Common.{◌∙◌}
 use Rattle.std.specs.Option.{option_map_or, option_and_then}
 use Rattle.core_laws.specs.Folds.{Fold, Value, Refused}
@@ -64,5 +65,7 @@ pub with_summary-keeps : {S : Type 0} (x : TupleEntry S) (o : Option S) → tupl
 with_summary-keeps x (Some s) = refl
 with_summary-keeps x None = refl
 
-pub combined-keeps : {S : Type 0} (combines : S → S → Option S) (x y : TupleEntry S) → tuple_key x ≡ tuple_key y → tuple_key (combined combines x y) ≡ tuple_key y
+pub combined-keeps : {S : Type 0} (combines : S → S → Option S) (x y : TupleEntry S)
+    → tuple_key x ≡ tuple_key y
+    → tuple_key (combined combines x y) ≡ tuple_key y
 combined-keeps combines x y same = with_summary-keeps x (combines x.summary y.summary) ∙ same

@@ -1,5 +1,6 @@
 -- Sums of whole numbers within the bounds of a type.
-use Rattle.std.specs.Prelude.{ℕ, ℤ, pos, ◌<◌, ◌≡◌, ◌+◌, ◌-◌, ◌^◌, ◌+ℤ◌, ◌&&◌, Bool, true, false, Option, Some, None, if◌then◌else◌, nat_lt, int_le, option_map}
+use Rattle.std.specs.Prelude.{ℕ, ℤ, pos, ◌<◌, ◌≡◌, ◌+◌, ◌-◌, ◌^◌, ◌+ℤ◌, ◌&&◌, Bool, true, false, Option, Some, None}
+use Rattle.std.specs.Prelude.{if◌then◌else◌, nat_lt, int_le, option_map}
 use Rattle.std.proofs.Common.{refl, arith, inl, inr}
 use Rattle.std.proofs.lemmas.Bool.{cases_lt}
 use Rattle.std.proofs.lemmas.Bool.Decides.{nat_tests}

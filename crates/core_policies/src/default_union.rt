@@ -7,8 +7,8 @@ use crate::sums::{CheckedSum, add_to};
 use sketch_base::Error;
 use std::marker::PhantomData;
 
-/// The policy of a union or an intersection that adds the summaries of one key. `DefaultUnionPolicy::<u64>::default()`
-/// adds 64-bit numbers; tuple_sketches has an example.
+/// The policy of a union or an intersection that adds the summaries of one key.
+/// `DefaultUnionPolicy::<u64>::default()` adds 64-bit numbers; tuple_sketches has an example.
 #[derive(Debug, Clone, Copy)]
 pub struct DefaultUnionPolicy<S> {
     of: PhantomData<S>,
@@ -42,7 +42,8 @@ impl<S: CheckedSum> SummaryCombinePolicy for DefaultUnionPolicy<S> {
     /// Adds an incoming summary. Refused with `Policy` exactly if the sum is out of the bounds of its type; then the
     /// summary is unchanged.
     fn combine(&self, summary: &mut S, incoming: &S) -> Result<(), Error>
-        ensures combined { MatchResult result (λ _. S.sums summary.old incoming.now ≡ Some summary.new) (λ _. summary.new ≡ summary.old) }
+        ensures combined { MatchResult result (λ _. S.sums summary.old incoming.now ≡ Some summary.new) (λ _.
+            summary.new ≡ summary.old) }
         ensures refused { Refuses result (policy_refusal (is_none (S.sums summary.old incoming.now))) false }
     {
         add_to(summary, *incoming)

@@ -42,7 +42,8 @@ impl<S: CheckedSum> SummaryUpdatePolicy<S> for DefaultUpdatePolicy<S> {
     /// Adds a value to a summary. Refused with `Policy` exactly if the sum is out of the bounds of its type; then the
     /// summary is unchanged.
     fn update(&self, summary: &mut S, value: S) -> Result<(), Error>
-        ensures updated { MatchResult result (λ _. S.sums summary.old value ≡ Some summary.new) (λ _. summary.new ≡ summary.old) }
+        ensures updated { MatchResult result (λ _. S.sums summary.old value ≡ Some summary.new) (λ _.
+            summary.new ≡ summary.old) }
         ensures refused { Refuses result (policy_refusal (is_none (S.sums summary.old value))) false }
     {
         add_to(summary, value)

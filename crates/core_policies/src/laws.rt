@@ -13,9 +13,13 @@ pub fn updates_keep_hashes<S, U>()
     ensures { (creates : Option S) (updates : S → U → Option S) → KeepsHashes tuple_key (update_step creates updates) }
 {}
 
-/// After any steps the whole map has, at each hash that may be retained, the created summary updated in order with the
-/// values added there since the last reset; and the mark if the policy refused to create it or to update it with one of
-/// them.
+/// After any steps the whole map has, at each hash that may be retained, the created summary updated in order with
+/// the values added there since the last reset; and the mark if the policy refused to create it or to update it with
+/// one of them.
 pub fn values_fold_in_order<S, U>()
-    ensures { (creates : Option S) (updates : S → U → Option S) (steps : List (LeafStep U)) (h : ℕ) → is_carried h ≡ true → entry_at (fold_key tuple_key) (whole (fold_key tuple_key) (folded_of tuple_key (update_step creates updates)) steps) h ≡ fold_at creates updates h (values_at h steps) }
+    ensures { (creates : Option S) (updates : S → U → Option S) (steps : List (LeafStep U)) (h : ℕ)
+        → is_carried h ≡ true
+        → entry_at (fold_key tuple_key)
+        (whole (fold_key tuple_key) (folded_of tuple_key (update_step creates updates)) steps) h
+        ≡ fold_at creates updates h (values_at h steps) }
 {}

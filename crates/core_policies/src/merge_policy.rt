@@ -17,7 +17,8 @@ pub trait UnionMergePolicy<E: SketchEntry> {
     /// Merges an incoming entry into an entry of the same hash, and keeps the hash. A refusal, of kind `Policy` or
     /// `OutOfMemory`, leaves the entry unchanged.
     fn merge(&self, entry: &mut E, incoming: &E) -> Result<(), Error>
-        ensures merged { MatchResult result (λ _. entry.new ≡ merges self.now entry.old incoming.now) (λ _. entry.new ≡ entry.old) }
+        ensures merged { MatchResult result (λ _. entry.new ≡ merges self.now entry.old incoming.now) (λ _.
+            entry.new ≡ entry.old) }
         ensures refused { Refuses result (policy_refusal (refuses self.now entry.old incoming.now)) true };
 
     /// Merging entries of one hash makes an entry of this hash.
@@ -35,7 +36,8 @@ pub trait IntersectionMergePolicy<E: SketchEntry> {
     /// Merges an incoming entry into an entry of the same hash, and keeps the hash. A refusal, of kind `Policy` or
     /// `OutOfMemory`, leaves the entry unchanged.
     fn merge(&self, entry: &mut E, incoming: &E) -> Result<(), Error>
-        ensures merged { MatchResult result (λ _. entry.new ≡ merges self.now entry.old incoming.now) (λ _. entry.new ≡ entry.old) }
+        ensures merged { MatchResult result (λ _. entry.new ≡ merges self.now entry.old incoming.now) (λ _.
+            entry.new ≡ entry.old) }
         ensures refused { Refuses result (policy_refusal (refuses self.now entry.old incoming.now)) true };
 
     /// Merging entries of one hash makes an entry of this hash.

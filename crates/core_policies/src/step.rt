@@ -32,7 +32,9 @@ impl<'a, U: Drop, P: SummaryUpdatePolicy<U>> UpsertStep<TupleEntry<P::Summary>>
     for UpdateStep<'a, P, U> {
     ghost use Rattle.core_policies.specs.Summaries.{update_step};
 
-    ghost means = { λ step. record (update_step (P.creates step.policy.now) (P.updates step.policy.now) step.hash step.value) { allocates = P.takes_memory step.policy.now } };
+    ghost means = { λ step.
+        record (update_step (P.creates step.policy.now) (P.updates step.policy.now) step.hash step.value)
+        { allocates = P.takes_memory step.policy.now } };
 
     #[inline(always)]
     fn existing(self, entry: &mut TupleEntry<P::Summary>) -> Result<(), Error> {

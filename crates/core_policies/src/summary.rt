@@ -32,8 +32,10 @@ pub trait SummaryUpdatePolicy<U>: SummaryPolicy {
     /// Updates a summary with a value. Refused with `Policy` if `updates` is none, and with `OutOfMemory` only if it
     /// may allocate (`takes_memory`); then the summary is unchanged.
     fn update(&self, summary: &mut Self::Summary, value: U) -> Result<(), Error>
-        ensures updated { MatchResult result (λ _. updates self.now summary.old value ≡ Some summary.new) (λ _. summary.new ≡ summary.old) }
-        ensures refused { Refuses result (policy_refusal (is_none (updates self.now summary.old value))) (Self.takes_memory self.now) };
+        ensures updated { MatchResult result (λ _. updates self.now summary.old value ≡ Some summary.new) (λ _.
+            summary.new ≡ summary.old) }
+        ensures refused { Refuses result (policy_refusal (is_none (updates self.now summary.old value)))
+            (Self.takes_memory self.now) };
 }
 
 /// How two summaries of one key are combined.
@@ -44,7 +46,8 @@ pub trait SummaryCombinePolicy: SummaryPolicy {
     /// Combines an incoming summary into another. Refused with `Policy` if `combines` is none, or with `OutOfMemory`;
     /// then the summary is unchanged.
     fn combine(&self, summary: &mut Self::Summary, incoming: &Self::Summary) -> Result<(), Error>
-        ensures combined { MatchResult result (λ _. combines self.now summary.old incoming.now ≡ Some summary.new) (λ _. summary.new ≡ summary.old) }
+        ensures combined { MatchResult result (λ _. combines self.now summary.old incoming.now ≡ Some summary.new)
+            (λ _. summary.new ≡ summary.old) }
         ensures refused { Refuses result (policy_refusal (is_none (combines self.now summary.old incoming.now))) true };
 }
 

@@ -147,7 +147,8 @@ impl CheckedSum for i64 {
 
 /// Adds to a summary. Refused with `Policy` if the sum is out of bounds; then the summary is unchanged.
 pub(crate) fn add_to<S: CheckedSum>(summary: &mut S, value: S) -> Result<(), Error>
-    ensures added { MatchResult result (λ _. S.sums summary.old value ≡ Some summary.new) (λ _. summary.new ≡ summary.old) }
+    ensures added { MatchResult result (λ _. S.sums summary.old value ≡ Some summary.new) (λ _.
+        summary.new ≡ summary.old) }
     ensures refused { Refuses result (policy_refusal (is_none (S.sums summary.old value))) false }
 {
     match summary.checked_sum(value) {

@@ -18,7 +18,8 @@ twice_sum_to n = n * (n + 1)
 
 -- of the entries `whole`, `put` are in slots, `begun` of them from the start and the others after `looked` looks; `stay`
 -- have looked in this round, and `wait` have not
-pub record IsInRound {X : Type 0} (key : X → ℕ) (lg : ℕ) (whole stay wait : List X) (slots : List (Option X)) (begun round put looked : ℕ) : Type 0 where
+pub record IsInRound {X : Type 0} (key : X → ℕ) (lg : ℕ) (whole stay wait : List X) (slots : List (Option X))
+    (begun round put looked : ℕ) : Type 0 where
   pub laid_out : IsLaidOut key lg slots
   pub found : (q : ℕ) → entry_at key (stay ++ (wait ++ filled slots)) q ≡ entry_at key whole q
   pub all : (q : ℕ) → hash_count key q stay + hash_count key q wait + hash_count key q (filled slots) ≡ hash_count key q whole

@@ -1,5 +1,6 @@
 -- Entries in slots.
-use Rattle.std.specs.Prelude.{ℕ, ◌<◌, ◌≡◌, ◌-◌, ◌^◌, ◌==◌, not, nat_lt, Bool, false, true, Option, Some, None, List, [], ◌∷◌, length, map, get_or, option_map, unwrap_or}
+use Rattle.std.specs.Prelude.{ℕ, ◌<◌, ◌≡◌, ◌-◌, ◌^◌, ◌==◌, not, nat_lt, Bool, false, true, Option, Some, None, List}
+use Rattle.std.specs.Prelude.{[], ◌∷◌, length, map, get_or, option_map, unwrap_or}
 use Rattle.core_laws.specs.Maps.{map_of}
 use Rattle.core_slots.specs.Probe.{probe}
 

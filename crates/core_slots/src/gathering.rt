@@ -1,5 +1,5 @@
-//! Slots laid out anew by way of others, into which the entries below a theta are gathered first. No branch depends on
-//! a hash while they are gathered.
+//! Slots laid out anew by way of others, into which the entries below a theta are gathered first. No branch depends
+//! on a hash while they are gathered.
 ghost use Rattle.std.specs.Prelude.{◌≡◌, ◌+◌, ◌-◌, ◌<◌, ◌≤◌, ◌^◌, ◌*◌, [], nat_lt, length, map, take};
 ghost use Rattle.std.specs.List.{count_by};
 ghost use Rattle.core_laws.specs.Maps.{below};
@@ -21,7 +21,8 @@ fn gather_below<E: SlotEntry>(slots: &mut [E::Slot], theta: u64, others: &mut [E
     ensures free { entries_in E.content slots.new ≡ [] }
     ensures number { result ≡ length (below E.key (entries_in E.content slots.old) theta) }
     ensures size_others { length others.new ≡ length others.old }
-    ensures taken { filled (map E.content (take result others.new)) ≡ below E.key (entries_in E.content slots.old) theta }
+    ensures taken { filled (map E.content (take result others.new))
+        ≡ below E.key (entries_in E.content slots.old) theta }
 {
     let mut count = 0;
     'take_each: for at in 0..slots.len() {
@@ -33,12 +34,13 @@ fn gather_below<E: SlotEntry>(slots: &mut [E::Slot], theta: u64, others: &mut [E
     count
 }
 
-/// Moves the entries below theta to the front of the slots, in their order. Returns how many it moved; the slots behind
-/// them are unspecified.
+/// Moves the entries below theta to the front of the slots, in their order. Returns how many it moved; the slots
+/// behind them are unspecified.
 pub(crate) fn pack_below<E: SlotEntry>(slots: &mut [E::Slot], theta: u64) -> usize
     ensures size { length slots.new ≡ length slots.old }
     ensures limited { result ≤ length slots.old }
-    ensures taken { filled (map E.content (take result slots.new)) ≡ below E.key (entries_in E.content slots.old) theta }
+    ensures taken { filled (map E.content (take result slots.new))
+        ≡ below E.key (entries_in E.content slots.old) theta }
 {
     let mut count = 0;
     'pack_each: for at in 0..slots.len() {
@@ -50,9 +52,9 @@ pub(crate) fn pack_below<E: SlotEntry>(slots: &mut [E::Slot], theta: u64) -> usi
     count
 }
 
-/// Lays the slots out anew with the entries below theta and drops the rest. They are gathered in `others` first, which
-/// has at least one slot more than these entries, and put back in rounds. Counts the placed entries in `placed` and the
-/// looks at slots in `looks`.
+/// Lays the slots out anew with the entries below theta and drops the rest. They are gathered in `others` first,
+/// which has at least one slot more than these entries, and put back in rounds. Counts the placed entries in `placed`
+/// and the looks at slots in `looks`.
 pub(crate) fn gather<E: SlotEntry, A: Allocator>(
     slots: &mut [E::Slot],
     others: Vec<E::Slot, A>,

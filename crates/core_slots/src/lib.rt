@@ -2,9 +2,9 @@
 //! searches, writes, moves from some slots to others, laying out the same slots anew, looking up many hashes at once,
 //! and the hash of a given rank among those in slots.
 //!
-//! There are 2^lg slots. The path of a hash begins at the slot of its low lg bits and continues by an odd stride taken
-//! from its next 7 bits, so it meets each slot once. Contracts see slots as a list of their contents, and speak of the
-//! map of the entries in them. The table above decides whether an entry may be retained, and when slots grow.
+//! There are 2^lg slots. The path of a hash begins at the slot of its low lg bits and continues by an odd stride
+//! taken from its next 7 bits, so it meets each slot once. Contracts see slots as a list of their contents, and speak
+//! of the map of the entries in them. The table above decides whether an entry may be retained, and when slots grow.
 #![tactic(auto)]
 
 mod count;

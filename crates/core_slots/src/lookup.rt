@@ -2,7 +2,8 @@
 //!
 //! Which hash a slot holds is as good as random, and with many slots each look waits for memory. So a round looks at
 //! one slot of each hash, without a branch on what it finds, and drops the found hashes only afterwards.
-ghost use Rattle.std.specs.Prelude.{◌≡◌, ◌==◌, ◌<◌, ◌≤◌, ◌^◌, if◌then◌else◌, false, not, length, filter, take, slice_index, EachIndex};
+ghost use Rattle.std.specs.Prelude.{◌≡◌, ◌==◌, ◌<◌, ◌≤◌, ◌^◌, if◌then◌else◌, false, not, length, filter, take};
+ghost use Rattle.std.specs.Prelude.{slice_index, EachIndex};
 ghost use Rattle.std.specs.List.{AllByRecursion};
 ghost use Rattle.core_laws.specs.Insertion.{IsRedundant, Drops, is_screened};
 ghost use Rattle.core_slots.specs.Lookup.{IsBlanked};
@@ -84,7 +85,8 @@ pub fn drop_retained<E: SlotEntry>(
     requires small { lg < 40 }
     requires size { length slots.now ≡ 2 ^ lg }
     requires positive { 0 < theta }
-    ensures left { Drops (IsRedundant E.key (record { entries = entries_in E.content slots.now; theta = theta })) hashes.old
+    ensures left { Drops (IsRedundant E.key (record { entries = entries_in E.content slots.now; theta = theta }))
+        hashes.old
         (take result hashes.new) }
     ensures unscreened { AllByRecursion (λ h. is_screened h theta ≡ false) (take result hashes.new) }
     ensures limited { result ≤ length hashes.old }

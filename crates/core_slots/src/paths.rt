@@ -1,8 +1,8 @@
 //! Entries put into free slots along the paths that many of them share.
 //!
 //! Whoever knows the table can choose hashes that all have one path, or paths that are parts of one. Put one by one,
-//! each of n entries would look at all those before it. Here they are put in the order of their places on these paths,
-//! and a search begins behind the slots that the one before it found taken: n searches take about n looks.
+//! each of n entries would look at all those before it. Here they are put in the order of their places on these
+//! paths, and a search begins behind the slots that the one before it found taken: n searches take about n looks.
 ghost use Rattle.std.specs.Prelude.{◌≡◌, ℕ, ◌+◌, ◌-◌, ◌<◌, ◌≤◌, ◌^◌, ◌*◌, ◌++◌, None, length, map};
 ghost use Rattle.core_laws.specs.Maps.{entry_at};
 ghost use Rattle.core_slots.specs.SlotLayout.{slot, HasOthers, IsLaidOut, entries_in};
@@ -37,17 +37,17 @@ fn steps_between(from: usize, to: usize, stride: usize, lg: u8) -> usize
     )
 }
 
-/// Where a hash is in the order of this module, for 2^`lg` slots, of which `mask` is the number less one: by its stride,
-/// and then by its place on the path of that stride through slot 0. The greatest is first, since entries are taken from
-/// the end of a list. No result depends on the order, only time.
+/// Where a hash is in the order of this module, for 2^`lg` slots, of which `mask` is the number less one: by its
+/// stride, and then by its place on the path of that stride through slot 0. The greatest is first, since entries are
+/// taken from the end of a list. No result depends on the order, only time.
 fn order_of(hash: u64, lg: u8, mask: u64) -> u64 {
     let stride = 2 * (hash.wrapping_shr(lg as u32) & STRIDE_MASK) + 1;
     let place = hash.wrapping_mul(inverse_of(stride)) & mask;
     u64::MAX.wrapping_sub((stride << 40) | place)
 }
 
-/// How many slots at the front of the path of a hash are among the first `taken` ones on the path of another: 0 unless
-/// the path begins among these.
+/// How many slots at the front of the path of a hash are among the first `taken` ones on the path of another: 0
+/// unless the path begins among these.
 fn steps_known(hash: u64, other: u64, taken: usize, lg: u8) -> usize
     requires small { lg < 40 }
     requires limited { taken ≤ 2 ^ lg }
@@ -108,7 +108,10 @@ pub(crate) fn put_along_paths<E: SlotEntry, A: Allocator>(
 )
     requires small { lg < 40 }
     requires laid_out { IsLaidOut E.key lg (map E.content slots.old) }
-    requires once { (q : ℕ) → hash_count E.key q (entries_in E.content left.old.items) + hash_count E.key q (entries_in E.content slots.old) ≤ 1 }
+    requires once { (q : ℕ)
+        → hash_count E.key q (entries_in E.content left.old.items) + hash_count E.key q
+        (entries_in E.content slots.old)
+        ≤ 1 }
     requires room { length (entries_in E.content left.old.items) + length (entries_in E.content slots.old) ≤ 2 ^ lg }
     ensures laid_out { IsLaidOut E.key lg (map E.content slots.new) }
     ensures found { (q : ℕ)
@@ -117,7 +120,8 @@ pub(crate) fn put_along_paths<E: SlotEntry, A: Allocator>(
     ensures all { (q : ℕ)
         → entry_count_in E.key E.content q slots.new
         ≡ entry_count_in E.key E.content q left.old.items + entry_count_in E.key E.content q slots.old }
-    ensures count { length (entries_in E.content slots.new) ≡ length (entries_in E.content left.old.items) + length (entries_in E.content slots.old) }
+    ensures count { length (entries_in E.content slots.new)
+        ≡ length (entries_in E.content left.old.items) + length (entries_in E.content slots.old) }
     ensures placed { placed.new ≡ placed.old + length (entries_in E.content left.old.items) }
     ensures looked { LooksForEach (placed.new - placed.old) looks.old looks.new }
     ensures looks { 2 * looks.new + twice_sum_to (length (entries_in E.content slots.old))

@@ -10,8 +10,8 @@ use crate::slot_entry::SlotEntry;
 use std::alloc::{AllocError, Allocator};
 use std::mem;
 
-/// Keeps the entries below theta, in the same slots: at most `kept` of them. Counts the entries placed anew in `placed`
-/// and the looks at slots in `looks`.
+/// Keeps the entries below theta, in the same slots: at most `kept` of them. Counts the entries placed anew in
+/// `placed` and the looks at slots in `looks`.
 ///
 /// It requests memory for `kept` + 1 more slots. It fails only if that runs out; then nothing has changed.
 pub fn keep_below<E: SlotEntry + Drop, A: Allocator + Clone>(
@@ -27,7 +27,8 @@ pub fn keep_below<E: SlotEntry + Drop, A: Allocator + Clone>(
     requires kept { length (below E.key (slot_map E.key E.content slots.old.items) theta) ≤ kept }
     requires limited { kept < 2 ^ 40 }
     ensures laid_out { OnOk result (IsLaidOut E.key lg (map E.content slots.new.items)) }
-    ensures map { OnOk result (slot_map E.key E.content slots.new.items ≡ below E.key (slot_map E.key E.content slots.old.items) theta) }
+    ensures map { OnOk result
+        (slot_map E.key E.content slots.new.items ≡ below E.key (slot_map E.key E.content slots.old.items) theta) }
     ensures placed { OnOk result (placed.new ≡ placed.old + length (entries_in E.content slots.new.items)) }
     ensures err { OnErr result (slots.new.items ≡ slots.old.items) }
     ensures placed_err { OnErr result (placed.new ≡ placed.old) }
@@ -54,7 +55,8 @@ pub fn put_kept<E: SlotEntry + Drop, A: Allocator + Clone>(
     requires small { lg < 40 }
     requires place { IsFreeFor E.key lg (map E.content slots.old.items) at entry }
     requires inside { at < length slots.old.items }
-    requires kept { length (below E.key (with_entry E.key (slot_map E.key E.content slots.old.items) entry) theta) ≤ kept }
+    requires kept { length (below E.key (with_entry E.key (slot_map E.key E.content slots.old.items) entry) theta)
+        ≤ kept }
     requires limited { kept < 2 ^ 40 }
     ensures laid_out { OnOk result (IsLaidOut E.key lg (map E.content slots.new.items)) }
     ensures map { OnOk result (

@@ -1,8 +1,9 @@
 //! Entries put into free slots in rounds. In each round, every remaining entry looks one slot further on its path.
 //!
-//! The counts take no memory, so in compiled code no branch depends on whether a slot is free. If entries were put one
-//! by one, each search would end with a mispredicted branch.
-ghost use Rattle.std.specs.Prelude.{◌≡◌, ℕ, ◌+◌, ◌-◌, ◌<◌, ◌≤◌, ◌^◌, ◌*◌, [], ◌++◌, is_none, if◌then◌else◌, length, map, set};
+//! The counts take no memory, so in compiled code no branch depends on whether a slot is free. If entries were put
+//! one by one, each search would end with a mispredicted branch.
+ghost use Rattle.std.specs.Prelude.{◌≡◌, ℕ, ◌+◌, ◌-◌, ◌<◌, ◌≤◌, ◌^◌, ◌*◌, [], ◌++◌, is_none, if◌then◌else◌, length};
+ghost use Rattle.std.specs.Prelude.{map, set};
 ghost use Rattle.core_laws.specs.Maps.{IsApart, entry_at};
 ghost use Rattle.core_slots.specs.SlotLayout.{slot, IsLaidOut, entries_in, slot_map};
 ghost use Rattle.core_slots.specs.Placing.{LooksForEach, LooksAtPlaced};
@@ -49,8 +50,8 @@ fn put_either<T: Drop>(is_first: bool, first: &mut T, second: &mut T, value: T)
     *places.chosen(is_first) = value;
 }
 
-/// Puts an entry into a slot if the slot is free, and otherwise into `waiting`. Returns whether the slot was free. It is
-/// one look.
+/// Puts an entry into a slot if the slot is free, and otherwise into `waiting`. Returns whether the slot was free. It
+/// is one look.
 #[inline(always)]
 fn put_if_free<E: PathEntry>(
     slots: &mut [E::Slot],
@@ -61,7 +62,8 @@ fn put_if_free<E: PathEntry>(
 ) -> bool
     requires { at < length slots.old }
     ensures free { result ≡ is_none (slot (map E.content slots.old) at) }
-    ensures written { map E.content slots.new ≡ if result then set (map E.content slots.old) at (E.content entry) else map E.content slots.old }
+    ensures written { map E.content slots.new
+        ≡ if result then set (map E.content slots.old) at (E.content entry) else map E.content slots.old }
     ensures waits { waiting.new ≡ if result then waiting.old else entry }
     ensures looks { looks.new ≡ looks.old + 1 }
 {
@@ -97,7 +99,9 @@ fn settle<E: SlotEntry>(
 ) -> usize
     requires small { lg < 40 }
     requires laid_out { IsLaidOut E.key lg (map E.content slots.old) }
-    requires once { (q : ℕ) → hash_count E.key q (entries_in E.content left.old) + hash_count E.key q (entries_in E.content slots.old) ≤ 1 }
+    requires once { (q : ℕ)
+        → hash_count E.key q (entries_in E.content left.old) + hash_count E.key q (entries_in E.content slots.old)
+        ≤ 1 }
     requires room { length (entries_in E.content left.old) + length (entries_in E.content slots.old) ≤ 2 ^ lg }
     ensures size { length left.new ≡ length left.old }
     ensures laid_out { IsLaidOut E.key lg (map E.content slots.new) }
@@ -107,7 +111,8 @@ fn settle<E: SlotEntry>(
     ensures all { (q : ℕ)
         → entry_count_in E.key E.content q slots.new
         ≡ entry_count_in E.key E.content q left.old + entry_count_in E.key E.content q slots.old }
-    ensures count { length (entries_in E.content slots.new) ≡ length (entries_in E.content left.old) + length (entries_in E.content slots.old) }
+    ensures count { length (entries_in E.content slots.new)
+        ≡ length (entries_in E.content left.old) + length (entries_in E.content slots.old) }
     ensures placed { placed.new ≡ placed.old + length (entries_in E.content left.old) }
     ensures looked { LooksForEach (placed.new - placed.old) looks.old looks.new }
     ensures looks { 2 * looks.new + twice_sum_to (length (entries_in E.content slots.old))
@@ -137,13 +142,13 @@ fn settle<E: SlotEntry>(
     }
 }
 
-/// How many slots are settled at once. They were gathered in the order of slots, so their entries look at a small part
-/// of memory.
+/// How many slots are settled at once. They were gathered in the order of slots, so their entries look at a small
+/// part of memory.
 const PART: usize = 1024;
 
 /// Moves the entries of `left` into slots, all of which are free, `PART` slots at a time. If a part takes more than
-/// `NEAR` rounds, many hashes share paths, and the rest is put along these. Counts the entries in `placed` and the looks
-/// at slots in `looks`.
+/// `NEAR` rounds, many hashes share paths, and the rest is put along these. Counts the entries in `placed` and the
+/// looks at slots in `looks`.
 pub fn settle_all<E: SlotEntry, A: Allocator>(
     left: &mut Vec<E::Slot, A>,
     slots: &mut [E::Slot],

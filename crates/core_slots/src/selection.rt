@@ -1,11 +1,11 @@
 //! The hash of a rank among those in slots.
 //!
-//! Hashes are spread evenly below the theta of a table, so arithmetic predicts roughly where the hash of a rank is. One
-//! pass gathers the hashes within a narrow window around that prediction, and counts those below it, without a branch
-//! on any of them.
+//! Hashes are spread evenly below the theta of a table, so arithmetic predicts roughly where the hash of a rank is.
+//! One pass gathers the hashes within a narrow window around that prediction, and counts those below it, without a
+//! branch on any of them.
 //!
-//! Hashes inserted from ascending lists are spread differently, so a window may miss the rank. Its counts then show on
-//! which side the hash is, and among how many, and the next window is aimed there. After a few misses a last pass
+//! Hashes inserted from ascending lists are spread differently, so a window may miss the rank. Its counts then show
+//! on which side the hash is, and among how many, and the next window is aimed there. After a few misses a last pass
 //! gathers all hashes; the result is the same.
 ghost use Rattle.std.specs.Prelude.{◌≡◌, ◌+◌, ◌-◌, ◌<◌, ◌≤◌, ◌^◌, [], ◌∷◌, ◌++◌, length, map, take, IfOk, OnOk};
 ghost use Rattle.core_laws.specs.Entries.{hash_key};
@@ -22,8 +22,8 @@ use std::alloc::{AllocError, Allocator};
 const TRIES: usize = 4;
 
 /// How far a window extends below the expected hash, in units of the span divided by twice the square root of the
-/// number of its hashes: about the standard deviation of that hash. Ascending lists insert their smaller hashes first,
-/// so the hash of a rank may well be further down than among evenly spread hashes.
+/// number of its hashes: about the standard deviation of that hash. Ascending lists insert their smaller hashes
+/// first, so the hash of a rank may well be further down than among evenly spread hashes.
 const FAR_DOWN: u64 = 8;
 
 /// If the hashes end below this, many lists were inserted, and a window extends half as far down.
@@ -113,8 +113,8 @@ const LEAST_ROOM: usize = 1024;
 /// How many slots are read in one block.
 const BLOCK: usize = 64;
 
-/// How many hashes of a window to have room for, with `count` hashes in `size` slots: twice the expected number, but at
-/// least `LEAST_ROOM`, and a block of slots; at most `size` + 1.
+/// How many hashes of a window to have room for, with `count` hashes in `size` slots: twice the expected number, but
+/// at least `LEAST_ROOM`, and a block of slots; at most `size` + 1.
 fn window_room(count: usize, size: usize) -> usize
     ensures { result ≤ size + 1 }
 {
@@ -190,8 +190,8 @@ fn lengthen<A: Allocator>(list: &mut Vec<u64, A>, least: usize) -> Result<(), Al
     Ok(())
 }
 
-/// Gathers the hashes from `low` to `high` in the slots and `also`, if there is one, and returns how many are less than
-/// `low`. It has room for `room` hashes before it requests memory again.
+/// Gathers the hashes from `low` to `high` in the slots and `also`, if there is one, and returns how many are less
+/// than `low`. It has room for `room` hashes before it requests memory again.
 fn gather_window<E: SlotEntry, A: Allocator>(
     hashes: &mut Vec<u64, A>,
     room: usize,
@@ -204,8 +204,10 @@ fn gather_window<E: SlotEntry, A: Allocator>(
     requires far { high < greatest_word }
     requires none { hashes.old.items ≡ [] }
     requires fits { length (filled (also ∷ []) ++ map E.key (entries_in E.content slots.now)) < 2 ^ 64 }
-    ensures gathered { OnOk result (hashes.new.items ≡ within low high (filled (also ∷ []) ++ map E.key (entries_in E.content slots.now))) }
-    ensures below { IfOk result (λ n. n ≡ rank hash_key (filled (also ∷ []) ++ map E.key (entries_in E.content slots.now)) low) }
+    ensures gathered { OnOk result
+        (hashes.new.items ≡ within low high (filled (also ∷ []) ++ map E.key (entries_in E.content slots.now))) }
+    ensures below { IfOk result (λ n.
+        n ≡ rank hash_key (filled (also ∷ []) ++ map E.key (entries_in E.content slots.now)) low) }
 {
     if let Some(hash) = also {
         if let Some(first) = kept_within(hash, low, high) {
@@ -261,12 +263,12 @@ fn nth_hash<A: Allocator + Drop>(hashes: &mut Vec<u64, A>, rank: usize) -> u64
     *hash
 }
 
-/// The hash with exactly `rank` smaller ones among those in the slots and `also`, if there is one. There are `count` of
-/// them, all distinct.
+/// The hash with exactly `rank` smaller ones among those in the slots and `also`, if there is one. There are `count`
+/// of them, all distinct.
 ///
-/// If they are spread evenly below `theta`, which may be any 64 bits, it requests memory for few of them, and otherwise
-/// for up to one more than there are slots; the result is the same. It fails only if that memory runs out. It frees the
-/// memory before it returns.
+/// If they are spread evenly below `theta`, which may be any 64 bits, it requests memory for few of them, and
+/// otherwise for up to one more than there are slots; the result is the same. It fails only if that memory runs out.
+/// It frees the memory before it returns.
 pub fn hash_of_rank<E: SlotEntry, A: Allocator + Drop>(
     alloc: A,
     also: Option<u64>,

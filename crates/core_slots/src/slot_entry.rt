@@ -9,8 +9,8 @@ use std::alloc::{AllocError, Allocator};
 
 /// An entry whose slots are searched. Each slot is free or holds an entry.
 ///
-/// Only `look` reads a slot, and it counts. So a function that knows no more of its entries than this trait examines no
-/// slot without a count. `SlotEntry` has the members that read slots without one.
+/// Only `look` reads a slot, and it counts. So a function that knows no more of its entries than this trait examines
+/// no slot without a count. `SlotEntry` has the members that read slots without one.
 pub trait PathEntry: SketchEntry {
     /// The type of a slot in memory.
     type Slot: Drop;
@@ -57,7 +57,8 @@ pub trait SlotEntry: PathEntry {
     fn is_below(slot: &Self::Slot, bound: u64) -> bool
         ensures { result ≡ holds_below Self.key bound (Self.content slot.now) };
 
-    /// The hash of the entry that a slot holds, and the greatest number of 64 bits for a free slot. It takes no branch.
+    /// The hash of the entry that a slot holds, and the greatest number of 64 bits for a free slot. It takes no
+    /// branch.
     fn hash_or_greatest(slot: &Self::Slot) -> u64
         ensures { result ≡ hash_or_greatest Self.key (Self.content slot.now) };
 

@@ -1,5 +1,7 @@
 //! Entries in slots.
-ghost use Rattle.std.specs.Prelude.{◌≡◌, ℕ, ◌+◌, ◌-◌, ◌<◌, ◌≤◌, ◌^◌, ◌%◌, ◌*◌, true, false, nat_lt, Some, None, is_none, IfNone, IfSome, IfOk, OnOk, OnErr, [], ◌∷◌, length, map, option_map, unwrap_or};
+ghost use Rattle.std.specs.Prelude.{◌≡◌, ℕ, ◌+◌, ◌-◌, ◌<◌, ◌≤◌, ◌^◌, ◌%◌, ◌*◌, true, false, nat_lt, Some, None};
+ghost use Rattle.std.specs.Prelude.{is_none, IfNone, IfSome, IfOk, OnOk, OnErr, [], ◌∷◌, length, map, option_map};
+ghost use Rattle.std.specs.Prelude.{unwrap_or};
 ghost use Rattle.std.specs.List.{count_by};
 ghost use Rattle.std.specs.Option.{option_copied};
 ghost use Rattle.core_laws.specs.Entries.{hash_key};
@@ -72,8 +74,8 @@ pub(crate) fn stride_of(hash: u64, lg: u8) -> usize
     (2 * ((hash >> lg) & STRIDE_MASK) + 1) as usize
 }
 
-/// The slot where a search for a hash ends: that of its entry, or else the first free slot of its path. At least one of
-/// the 2^`lg` slots is free.
+/// The slot where a search for a hash ends: that of its entry, or else the first free slot of its path. At least one
+/// of the 2^`lg` slots is free.
 ///
 /// Counts each look at a slot in `looks`: from 1 to one more than the number of taken slots.
 #[inline(always)]
@@ -204,7 +206,8 @@ fn spread<E: SlotEntry, A: Allocator>(
     requires room { length (entries_in E.content from.old.items) ≤ 2 ^ lg }
     ensures laid_out { IsLaidOut E.key lg (map E.content slots.new) }
     ensures map { slot_map E.key E.content slots.new ≡ below E.key (slot_map E.key E.content from.old.items) theta }
-    ensures placed { placed.new ≡ placed.old + count_by (λ x. nat_lt (E.key x) theta) (entries_in E.content from.old.items) }
+    ensures placed { placed.new
+        ≡ placed.old + count_by (λ x. nat_lt (E.key x) theta) (entries_in E.content from.old.items) }
     ensures looked { LooksForEach (placed.new - placed.old) looks.old looks.new }
     ensures looks { LooksAtPlaced (placed.new - placed.old) looks.old looks.new }
 {

@@ -15,7 +15,8 @@ pub trait UpsertStep<X> {
 
     /// Writes the existing entry. A refusal leaves the entry unchanged.
     fn existing(self, entry: &mut X) -> Result<(), Error>
-        ensures written { MatchResult result (λ _. entry.new ≡ (means self).writes entry.old) (λ _. entry.new ≡ entry.old) }
+        ensures written { MatchResult result (λ _. entry.new ≡ (means self).writes entry.old) (λ _.
+            entry.new ≡ entry.old) }
         ensures refused { Refuses result ((means self).refuses_existing entry.old) (means self).allocates };
 
     /// Makes the entry to insert, or declines to.
@@ -24,8 +25,8 @@ pub trait UpsertStep<X> {
         ensures refused { Refuses result (means self).refuses_absent (means self).allocates };
 }
 
-/// The step that makes an entry if none has its hash, and leaves an existing one unchanged. A theta sketch inserts its
-/// hashes with it.
+/// The step that makes an entry if none has its hash, and leaves an existing one unchanged. A theta sketch inserts
+/// its hashes with it.
 #[derive(Drop)]
 pub struct PutStep<X> {
     entry: X,

@@ -26,10 +26,20 @@ sketch_value s = if s.empty then Empty else NonEmpty s.map.kept
 
 -- what a sketch shows; it is never ordered
 abbrev pub sketch_shows : {X : Type 0} → (X → ℕ) → Updatable X → Shown
-sketch_shows key s = record { empty = s.empty; theta = theta_of (sketch_value s); seed_hash = s.map.seed_hash; ordered = false; hashes = map key s.sequence }
+sketch_shows key s =
+    record {
+      empty = s.empty;
+      theta = theta_of (sketch_value s);
+      seed_hash = s.map.seed_hash;
+      ordered = false;
+      hashes = map key s.sequence;
+    }
 
 -- updates with hashes stopped at one that makes an entry, because memory was refused: the sketch has accepted exactly
 -- the hashes before it
 abbrev pub StopsUpdates : (hashes : List ℕ) → (old new : Updatable ℕ) → Type 0
 StopsUpdates hashes old new =
-    StopsAt hashes (λ front hash. (new.map ≡ after_hashes front old.map) × (new.empty ≡ (old.empty && length front == 0)) × IsTrue (hash_allocates hash new.map.kept))
+    StopsAt hashes (λ front hash.
+    (new.map ≡ after_hashes front old.map)
+    × (new.empty ≡ (old.empty && length front == 0))
+    × IsTrue (hash_allocates hash new.map.kept))

@@ -33,8 +33,14 @@ sequence view = (lending view).rest
 
 -- a view of this sketch: what the sketch shows, its entries and its value
 abbrev pub ViewsSketch : {X Z S : Type 0} → (key : X → ℕ) → SketchView X Z S → Updatable X → Type 0
-ViewsSketch key view s = (shows key view ≡ sketch_shows key s) × (sequence view ≡ s.sequence) × (shown_value key (shows key view) (sequence view) ≡ sketch_value s)
+ViewsSketch key view s =
+    (shows key view ≡ sketch_shows key s)
+    × (sequence view ≡ s.sequence)
+    × (shown_value key (shows key view) (sequence view) ≡ sketch_value s)
 
 -- a view of this compact sketch: what the sketch shows, its entries and its value
 abbrev pub ViewsCompact : {X Z S : Type 0} → (key : X → ℕ) → SketchView X Z S → state.Compact X → Type 0
-ViewsCompact key view s = (shows key view ≡ shown_of key s) × (sequence view ≡ s.entries) × (shown_value key (shows key view) (sequence view) ≡ compact_value key s)
+ViewsCompact key view s =
+    (shows key view ≡ shown_of key s)
+    × (sequence view ≡ s.entries)
+    × (shown_value key (shows key view) (sequence view) ≡ compact_value key s)

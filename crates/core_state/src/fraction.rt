@@ -85,8 +85,8 @@ impl fmt::Display for Decimal {
     }
 }
 
-/// The quotient of a fraction as a decimal number with `places` decimals, from 0 to 19, rounded down. The divisor is a
-/// theta, from 1 to `MAX_THETA`.
+/// The quotient of a fraction as a decimal number with `places` decimals, from 0 to 19, rounded down. The divisor is
+/// a theta, from 1 to `MAX_THETA`.
 pub fn estimate_decimal(fraction: (u128, u128), places: u32) -> Decimal
     requires low { 0 < fraction.1 }
     requires high { fraction.1 ≤ MAX_THETA }

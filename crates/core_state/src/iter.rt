@@ -7,8 +7,8 @@ use core_operators::EntryIter;
 use core_slots::ThetaEntry;
 use std::marker::Model;
 
-/// Iterates over the entries of a theta sketch, each once: those of a mutable sketch in an unspecified order, those of
-/// a compact sketch in its order.
+/// Iterates over the entries of a theta sketch, each once: those of a mutable sketch in an unspecified order, those
+/// of a compact sketch in its order.
 #[derive(Drop)]
 pub struct ThetaSketchIter<'a> {
     entries: EntryIter<'a, ThetaEntry>,

@@ -21,9 +21,21 @@ impl Model for Settings {
 
     ghost Value = { Settings };
 
-    ghost view = { λ b. record { lg_k = b.lg_k; resize_factor = b.resize_factor; starting_theta = b.starting_theta; seed = b.seed } };
+    ghost view = { λ b.
+        record {
+          lg_k = b.lg_k;
+          resize_factor = b.resize_factor;
+          starting_theta = b.starting_theta;
+          seed = b.seed;
+        } };
 
-    ghost inverse = { λ s. record { lg_k = s.lg_k; resize_factor = s.resize_factor; starting_theta = s.starting_theta; seed = s.seed } };
+    ghost inverse = { λ s.
+        record {
+          lg_k = s.lg_k;
+          resize_factor = s.resize_factor;
+          starting_theta = s.starting_theta;
+          seed = s.seed;
+        } };
 }
 
 impl Default for Settings {

@@ -1,5 +1,6 @@
 //! The state of a sketch that takes updates, of either family.
-ghost use Rattle.std.specs.Prelude.{◌≡◌, ◌≤◌, ◌==◌, ◌&&◌, ◌^◌, true, false, not, nat_lt, None, length, IfOk, OnOk, OnErr};
+ghost use Rattle.std.specs.Prelude.{◌≡◌, ◌≤◌, ◌==◌, ◌&&◌, ◌^◌, true, false, not, nat_lt, None, length, IfOk, OnOk};
+ghost use Rattle.std.specs.Prelude.{OnErr};
 ghost use Rattle.std.specs.List.{concat};
 ghost use Rattle.std.specs.Option.{ForSome};
 ghost use Rattle.sketch_base.specs.Seed.{hash_of};
@@ -8,7 +9,8 @@ ghost use Rattle.core_laws.specs.Entries.{hash_key, hash_step, ClonesEqual};
 ghost use Rattle.core_laws.specs.Refusal.{Refuses};
 ghost use Rattle.core_laws.specs.Maps.{IsListing};
 ghost use Rattle.core_laws.specs.Settings.{settings_refusal};
-ghost use Rattle.core_table.specs.HashTable.{empty_table, after_reset, after_hashes, after_insertion, after_hash, trimmed_table};
+ghost use Rattle.core_table.specs.HashTable.{empty_table, after_reset, after_hashes, after_insertion, after_hash};
+ghost use Rattle.core_table.specs.HashTable.{trimmed_table};
 ghost use Rattle.core_laws.specs.Insertion.{upsert_allocates, RefusesUpsert};
 ghost use Rattle.core_state.specs.Updatable.{IsUpdatable, sketch_value, sketch_shows, StopsUpdates};
 ghost use Rattle.core_laws.specs.Values.{theta_of, count_of, fraction_of};
@@ -46,8 +48,8 @@ impl<E: SlotEntry, A: Allocator> Model for UpdatableState<E, A> {
 }
 
 impl<E: SlotEntry, A: Allocator> UpdatableState<E, A> {
-    /// An empty state with these settings, in memory of `alloc`. Refused with `InvalidArgument` if a setting is out of
-    /// range or the seed hash is 0, and with `OutOfMemory`.
+    /// An empty state with these settings, in memory of `alloc`. Refused with `InvalidArgument` if a setting is out
+    /// of range or the seed hash is 0, and with `OutOfMemory`.
     pub fn new(alloc: A, settings: Settings) -> Result<Self, Error>
     where
         A: Drop,
@@ -100,8 +102,8 @@ impl<E: SlotEntry, A: Allocator> UpdatableState<E, A> {
         self.table.num_retained()
     }
 
-    /// The estimated number of distinct values seen, as a fraction: the retained entries times `MAX_THETA`, over theta,
-    /// not reduced; 0 over 1 if it is empty.
+    /// The estimated number of distinct values seen, as a fraction: the retained entries times `MAX_THETA`, over
+    /// theta, not reduced; 0 over 1 if it is empty.
     pub fn estimate_fraction(&self) -> (u128, u128)
         ensures { result ≡ fraction_of (sketch_value self.now) }
     {
@@ -168,8 +170,8 @@ impl<E: SlotEntry + Drop, A: Allocator> UpdatableState<E, A> {
 }
 
 impl<E: SlotEntry + Drop, A: Allocator + Clone> UpdatableState<E, A> {
-    /// Applies a step to the entry of a hash: the step changes the retained entry, or may create one. A hash that is 0
-    /// or at least theta is not retained, but the state becomes nonempty.
+    /// Applies a step to the entry of a hash: the step changes the retained entry, or may create one. A hash that is
+    /// 0 or at least theta is not retained, but the state becomes nonempty.
     ///
     /// Refused with the step's error, or with `OutOfMemory`; then nothing has changed, emptiness included.
     #[inline(always)]
@@ -216,8 +218,8 @@ impl<E: SlotEntry + Clone, A: Allocator + Clone> UpdatableState<E, A> {
         Ok(UpdatableState { table, empty })
     }
 
-    /// Its compact form, with the same value, untrimmed. The result is ordered if `ordered` is true, if it is empty, or
-    /// if it has one entry at the greatest theta. Refused with `OutOfMemory` alone.
+    /// Its compact form, with the same value, untrimmed. The result is ordered if `ordered` is true, if it is empty,
+    /// or if it has one entry at the greatest theta. Refused with `OutOfMemory` alone.
     pub fn compact(&self, ordered: bool) -> Result<CompactSketchState<E, A>, Error>
         requires clones_equal { ClonesEqual E.is_clone }
         ensures ok { IfOk result (IsAnswer E.key (sketch_value self.now) self.now.map.seed_hash ordered) }
@@ -237,7 +239,8 @@ impl<A: Allocator + Clone> UpdatableState<ThetaEntry, A> {
     /// Inserts a hash, which is its own entry. A hash that is 0 or at least theta is not retained, but the state
     /// becomes nonempty.
     ///
-    /// Refused with `OutOfMemory` alone, and only for a new hash below theta; then nothing has changed, emptiness included.
+    /// Refused with `OutOfMemory` alone, and only for a new hash below theta; then nothing has changed, emptiness
+    /// included.
     #[inline(always)]
     pub fn insert_hash(&mut self, hash: u64) -> Result<(), Error>
         ensures nonempty { OnOk result (self.new.empty ≡ false) }
@@ -251,8 +254,8 @@ impl<A: Allocator + Clone> UpdatableState<ThetaEntry, A> {
         Ok(())
     }
 
-    /// Inserts hashes in their order, each as `insert_hash` does; the slots of up to 256 of them are read side by side.
-    /// Afterwards the state is nonempty, unless it was empty and there were no hashes.
+    /// Inserts hashes in their order, each as `insert_hash` does; the slots of up to 256 of them are read side by
+    /// side. Afterwards the state is nonempty, unless it was empty and there were no hashes.
     ///
     /// Refused with `OutOfMemory` alone, and only at a new hash below theta; then exactly the hashes before it have
     /// been inserted, and the same call may be repeated.

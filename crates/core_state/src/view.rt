@@ -125,8 +125,8 @@ impl<'a, E: SlotEntry, A: Allocator> SketchView<'a, E, A> {
 }
 
 impl<'a, A: Allocator> SketchView<'a, ThetaEntry, A> {
-    /// The sketch's entries, each once: those of a mutable sketch in an unspecified order, those of a compact sketch in
-    /// its order.
+    /// The sketch's entries, each once: those of a mutable sketch in an unspecified order, those of a compact sketch
+    /// in its order.
     pub fn iter(&self) -> ThetaSketchIter<'a>
         ensures listed { result ≡ lending self.now }
         ensures sound { IsShown (shows hash_key self.now) }

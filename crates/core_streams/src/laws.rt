@@ -16,9 +16,12 @@ ghost use Rattle.core_streams.specs.WholeMaps.{IsPart, IsSketchOfMap};
 /// The value of a sketch is a part of what it was given, and a part for some k is one for fewer. One that isn't Empty
 /// and has no more than k entries has the k entries of least key below the start.
 pub fn parts_of_whole_maps<X>()
-    ensures sketch { (key : X → ℕ) (lg_k start seed : ℕ) (s : Updatable X) (whole : List X) → IsSketchOfMap key lg_k start seed s whole →
+    ensures sketch { (key : X → ℕ) (lg_k start seed : ℕ) (s : Updatable X) (whole : List X)
+        → IsSketchOfMap key lg_k start seed s whole →
         IsPart key (2 ^ lg_k) start (sketch_value s) whole }
-    ensures fewer { (key : X → ℕ) (k more start : ℕ) (value : Sketch X) (whole : List X) → k ≤ more → IsPart key more start value whole →
+    ensures fewer { (key : X → ℕ) (k more start : ℕ) (value : Sketch X) (whole : List X)
+        → k ≤ more
+        → IsPart key more start value whole →
         IsPart key k start value whole }
     ensures least { (key : X → ℕ) (k start : ℕ) (value : Sketch X) (whole : List X) → cut_value key k value ≡ value →
         IsPart key k start value whole → value ≢ Empty → value ≡ NonEmpty (cut key k whole start) }

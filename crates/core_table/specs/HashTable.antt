@@ -1,5 +1,7 @@
 -- The value of a hash table, its laws and its sizes.
-use Rattle.std.specs.Prelude.{ℕ, ◌<◌, ◌≤◌, ◌≡◌, ◌==◌, ◌+◌, ◌-◌, ◌*◌, ◌/◌, ◌%◌, ◌^◌, ◌&&◌, ◌||◌, ◌⊎◌, true, false, List, [], nat_lt, nat_le, min, Bool, if◌then◌else◌, Option, length, is_some, IsTrue, Result}
+use Rattle.std.specs.Prelude.{ℕ, ◌<◌, ◌≤◌, ◌≡◌, ◌==◌, ◌+◌, ◌-◌, ◌*◌, ◌/◌, ◌%◌, ◌^◌, ◌&&◌, ◌||◌, ◌⊎◌, true, false}
+use Rattle.std.specs.Prelude.{List, [], nat_lt, nat_le, min, Bool, if◌then◌else◌, Option, length, is_some, IsTrue}
+use Rattle.std.specs.Prelude.{Result}
 use Rattle.std.specs.Int.Count.{count_leading_zeros}
 use Rattle.std.specs.List.{concat}
 use Rattle.sketch_base.specs.Seed.{seed_hash, hash_of}
@@ -8,7 +10,8 @@ use Rattle.core_laws.specs.declared.TheConstants.{MAX_THETA, MIN_LG_K, MIN_LG_SL
 use Rattle.core_laws.specs.Cuts.{Retained, cut, none_below, IsRetained}
 use Rattle.core_laws.specs.Maps.{entry_at}
 use Rattle.core_laws.specs.Entries.{hash_key, hash_step}
-use Rattle.core_laws.specs.Insertion.{is_screened, creates, after_upsert, after_upserts, upsert_allocates, RefusesAsStep}
+use Rattle.core_laws.specs.Insertion.{is_screened, creates, after_upsert, after_upserts, upsert_allocates}
+use Rattle.core_laws.specs.Insertion.{RefusesAsStep}
 use Rattle.core_laws.specs.Parts.{StopsAt}
 use Rattle.core_laws.specs.Step.{Step}
 use Rattle.core_slots.specs.Entry.{tuple_key, entry_step}
@@ -178,7 +181,10 @@ pub record IsSlotted {X : Type 0} (key : X → ℕ) (t : MapTable X) (lg_cur gro
 -- on at most three times those that were created before the fresh ones
 abbrev pub ArePlaced : (lg_cur lg_nom count : ℕ) → Counts → Type 0
 ArePlaced lg_cur lg_nom count done =
-    ((done.fresh ≡ done.inserted) × ((count ≤ done.inserted) × ((2 * done.placed ≤ 2 ^ lg_cur + 2 * lg_cur) × (done.placed ≤ 3 * done.inserted)))) ⊎ ((lg_nom < lg_cur) × (done.placed + 3 * done.fresh ≤ 3 * done.inserted))
+    ((done.fresh ≡ done.inserted)
+    × ((count ≤ done.inserted)
+    × ((2 * done.placed ≤ 2 ^ lg_cur + 2 * lg_cur) × (done.placed ≤ 3 * done.inserted))))
+    ⊎ ((lg_nom < lg_cur) × (done.placed + 3 * done.fresh ≤ 3 * done.inserted))
 
 -- counts against the retained entries: all beyond the nominal ones are fresh, rebuilds are rare, and few entries were
 -- placed if only insertions cut any
@@ -190,19 +196,27 @@ pub record CountsAgree (lg_cur lg_nom count : ℕ) (done : Counts) : Type 0 wher
 -- the binary logarithm of the slots after an insertion that creates an entry: greater if they then have more entries than
 -- they may and can still grow
 abbrev pub size_after : (lg_cur lg_nom grow count : ℕ) → ℕ
-size_after lg_cur lg_nom grow count = if nat_le (count + 1) (threshold lg_cur lg_nom) then lg_cur else if nat_le lg_cur lg_nom then min (lg_cur + grow) (lg_nom + 1) else lg_cur
+size_after lg_cur lg_nom grow count =
+    if nat_le (count + 1) (threshold lg_cur lg_nom) then lg_cur
+    else if nat_le lg_cur lg_nom then min (lg_cur + grow) (lg_nom + 1)
+    else lg_cur
 
 -- how many entries there are after an insertion that creates one: the nominal ones if the slots then have more than they
 -- may and cannot grow
 abbrev pub count_after : (lg_cur lg_nom count : ℕ) → ℕ
-count_after lg_cur lg_nom count = if nat_le (count + 1) (threshold lg_cur lg_nom) then count + 1 else if nat_le lg_cur lg_nom then count + 1 else 2 ^ lg_nom
+count_after lg_cur lg_nom count =
+    if nat_le (count + 1) (threshold lg_cur lg_nom) then count + 1
+    else if nat_le lg_cur lg_nom then count + 1
+    else 2 ^ lg_nom
 
 -- the counts after an insertion that creates an entry, all but its looks, if the slots have room for it, can grow, or
 -- neither: growth places all entries, and a rebuild the nominal ones
 abbrev pub ticked_if : (fits grows : Bool) → (nominal count : ℕ) → Counts → Counts
 ticked_if true grows nominal count done = record done { inserted = done.inserted + 1; fresh = done.fresh + 1 }
 ticked_if false true nominal count done = record done { inserted = done.inserted + 1; fresh = done.fresh + 1; placed = done.placed + (count + 1) }
-ticked_if false false nominal count done = record done { inserted = done.inserted + 1; fresh = 0; placed = done.placed + nominal; rebuilds = done.rebuilds + 1 }
+ticked_if false false nominal count done =
+    record done
+    { inserted = done.inserted + 1; fresh = 0; placed = done.placed + nominal; rebuilds = done.rebuilds + 1 }
 
 -- the counts after an insertion that creates an entry, all but its looks, by the slots and the entries before it
 abbrev pub ticked : (lg_cur lg_nom count : ℕ) → Counts → Counts
@@ -219,17 +233,23 @@ lg_cur_after t created = if created then size_after t.layout.lg_cur t.map.lg_nom
 -- the counts of a table after a trim
 abbrev pub counts_after_trim : {X : Type 0} → Table X → Counts
 counts_after_trim t =
-    if nat_lt (2 ^ t.map.lg_nom) (length t.map.kept.entries) then record t.counts { placed = t.counts.placed + 2 ^ t.map.lg_nom; trims = t.counts.trims + 1 } else t.counts
+    if nat_lt (2 ^ t.map.lg_nom) (length t.map.kept.entries)
+    then record t.counts { placed = t.counts.placed + 2 ^ t.map.lg_nom; trims = t.counts.trims + 1 }
+    else t.counts
 
 -- an insertion counts at most one look for each entry that was there, one more, and n for the nth entry that it places
 abbrev pub AreFewLooks : {X : Type 0} → (old new : Table X) → Type 0
 AreFewLooks old new =
-    2 * new.counts.looks ≤ 2 * (old.counts.looks + length old.map.kept.entries + 1) + (new.counts.placed - old.counts.placed) * (new.counts.placed - old.counts.placed + 1)
+    2 * new.counts.looks
+    ≤ 2 * (old.counts.looks + length old.map.kept.entries + 1) + (new.counts.placed - old.counts.placed) *
+    (new.counts.placed - old.counts.placed + 1)
 
 -- an insertion of a hash that isn't screened counts at least one look for its search, and one for each entry that it
 -- places
 abbrev pub AreEnoughLooks : {X : Type 0} → (hash : ℕ) → (old new : Table X) → Type 0
-AreEnoughLooks hash old new = is_screened hash old.map.kept.theta ≡ false → old.counts.looks + (new.counts.placed - old.counts.placed) < new.counts.looks
+AreEnoughLooks hash old new =
+    is_screened hash old.map.kept.theta ≡ false
+    → old.counts.looks + (new.counts.placed - old.counts.placed) < new.counts.looks
 
 -- an insertion of a screened hash counts nothing
 abbrev pub IsUncountedIfScreened : {X : Type 0} → (hash : ℕ) → (old new : Table X) → Type 0

@@ -28,7 +28,12 @@ after_put key sizes xs entry = rebuilt key (2 ^ sizes.lg_nom) (with_entry key xs
 
 -- the sizes after a growth with a new entry
 abbrev pub grown : Sizes → Sizes
-grown sizes = record sizes { lg_cur = min (sizes.lg_cur + sizes.grow) (sizes.lg_nom + 1); most = threshold (min (sizes.lg_cur + sizes.grow) (sizes.lg_nom + 1)) sizes.lg_nom; count = sizes.count + 1 }
+grown sizes =
+    record sizes {
+      lg_cur = min (sizes.lg_cur + sizes.grow) (sizes.lg_nom + 1);
+      most = threshold (min (sizes.lg_cur + sizes.grow) (sizes.lg_nom + 1)) sizes.lg_nom;
+      count = sizes.count + 1;
+    }
 
 -- for every theta above all these entries, what is retained is their cut below it
 abbrev pub IsCutOf : {X : Type 0} → (key : X → ℕ) → (nominal : ℕ) → List X → Retained X → Type 0

@@ -63,7 +63,8 @@ pub(crate) fn state_below<E: SlotEntry + Clone, A: Allocator>(
     requires apart { IsApart E.key (entries_in E.content slots.now) }
     requires sound { IsRetained E.key (retained E.key (slot_map E.key E.content slots.now) theta) }
     requires limited { length (below E.key (slot_map E.key E.content slots.now) theta) < 2 ^ 32 }
-    ensures ok { IfOk result (IsCompactOf E.key (retained E.key (slot_map E.key E.content slots.now) theta) seed_hash ordered) }
+    ensures ok { IfOk result
+        (IsCompactOf E.key (retained E.key (slot_map E.key E.content slots.now) theta) seed_hash ordered) }
     ensures refused { Refuses result None true }
 {
     let entries = entries_below::<E, A>(alloc, slots, theta, room)?;
@@ -74,8 +75,8 @@ pub(crate) fn state_below<E: SlotEntry + Clone, A: Allocator>(
     Ok(CompactSketchState::non_empty(entries, theta, seed_hash, false))
 }
 
-/// The theta of the entries below `theta`, cut to k: the same theta, or the (k+1)th smallest hash if that is less. The
-/// search expects the entries to be spread evenly below `own_theta`, which affects only its time.
+/// The theta of the entries below `theta`, cut to k: the same theta, or the (k+1)th smallest hash if that is less.
+/// The search expects the entries to be spread evenly below `own_theta`, which affects only its time.
 pub(crate) fn cut_theta<E: SlotEntry, A: Allocator + Drop>(
     alloc: A,
     slots: &[E::Slot],
@@ -88,7 +89,9 @@ pub(crate) fn cut_theta<E: SlotEntry, A: Allocator + Drop>(
     requires counted { count ≡ length (entries_in E.content slots.now) }
     requires nonzero { AllByRecursion (λ x. 0 < E.key x) (slot_map E.key E.content slots.now) }
     requires low { 0 < theta }
-    ensures cut { IfOk result (λ t. cut E.key nominal (slot_map E.key E.content slots.now) theta ≡ retained E.key (slot_map E.key E.content slots.now) t) }
+    ensures cut { IfOk result (λ t.
+        cut E.key nominal (slot_map E.key E.content slots.now) theta
+        ≡ retained E.key (slot_map E.key E.content slots.now) t) }
     ensures low { IfOk result (λ t. 0 < t) }
     ensures high { IfOk result (λ t. t ≤ theta) }
 {

@@ -1,5 +1,7 @@
 //! The table of retained entries.
-ghost use Rattle.std.specs.Prelude.{◌≡◌, ◌==◌, ◌⊎◌, ◌&&◌, if◌then◌else◌, ◌+◌, ◌-◌, ◌*◌, ◌/◌, ◌<◌, ◌≤◌, ◌^◌, [], not, true, false, None, is_none, nat_lt, length, take, Some, IfOk, IfErr, IsOk, OnOk, OnErr, IsTrue};
+ghost use Rattle.std.specs.Prelude.{◌≡◌, ◌==◌, ◌⊎◌, ◌&&◌, if◌then◌else◌, ◌+◌, ◌-◌, ◌*◌, ◌/◌, ◌<◌, ◌≤◌, ◌^◌, []};
+ghost use Rattle.std.specs.Prelude.{not, true, false, None, is_none, nat_lt, length, take, Some, IfOk, IfErr, IsOk};
+ghost use Rattle.std.specs.Prelude.{OnOk, OnErr, IsTrue};
 ghost use Rattle.std.specs.List.{AllByRecursion, concat};
 ghost use Rattle.std.specs.Option.{ForSome, option_copied};
 ghost use Rattle.sketch_base.specs.Seed.{hash_of};
@@ -9,7 +11,14 @@ ghost use Rattle.core_laws.specs.Cuts.{cut, none_below};
 ghost use Rattle.core_laws.specs.Entries.{hash_key, ClonesEqual};
 ghost use Rattle.core_laws.specs.Refusal.{Refuses};
 ghost use Rattle.core_laws.specs.Settings.{settings_refusal};
-ghost use Rattle.core_table.specs.HashTable.{Table, IsTable, IsSized, IsSeedHash, empty_table, set_table, after_reset, after_hashes, lg_size_for, whole_log, has_room, may_insert, threshold, sub_multiple, slots_of_operator, nothing_done, ticked, key_hash, after_insertion, after_hash, creates_hash, hash_allocates, after_tuple, creates_tuple, trimmed_table, cut_table, StopsAtMemory, counts_after, lg_cur_after, counts_after_trim, AreFewLooks, AreEnoughLooks, IsUncountedIfScreened, IsBelowThreshold, RefusesBelowThreshold};
+ghost use Rattle.core_table.specs.HashTable.{Table, IsTable, IsSized, IsSeedHash, empty_table, set_table};
+ghost use Rattle.core_table.specs.HashTable.{after_reset, after_hashes, lg_size_for, whole_log, has_room};
+ghost use Rattle.core_table.specs.HashTable.{may_insert, threshold, sub_multiple, slots_of_operator, nothing_done};
+ghost use Rattle.core_table.specs.HashTable.{ticked, key_hash, after_insertion, after_hash, creates_hash};
+ghost use Rattle.core_table.specs.HashTable.{hash_allocates, after_tuple, creates_tuple, trimmed_table, cut_table};
+ghost use Rattle.core_table.specs.HashTable.{StopsAtMemory, counts_after, lg_cur_after, counts_after_trim};
+ghost use Rattle.core_table.specs.HashTable.{AreFewLooks, AreEnoughLooks, IsUncountedIfScreened, IsBelowThreshold};
+ghost use Rattle.core_table.specs.HashTable.{RefusesBelowThreshold};
 ghost use Rattle.core_table.specs.ResizeFactor.{lg_of};
 ghost use Rattle.core_slots.specs.SlotLayout.{filled, slot, is_other, IsOnPath, IsLaidOut, entries_in, slot_map};
 ghost use Rattle.core_slots.specs.Placing.{LooksForEach, LooksAtPlaced};
@@ -41,8 +50,8 @@ use std::marker::{Model, PhantomData};
 
 /// The entries of a sketch below its theta. Contracts see them as a map, ascending by hash, and the theta.
 ///
-/// Let k be its nominal entries, a power of 2. If k is at least 8, an insertion that brings the retained entries above
-/// 15k/8 lowers theta to the (k+1)th smallest hash, and exactly the k entries below it stay.
+/// Let k be its nominal entries, a power of 2. If k is at least 8, an insertion that brings the retained entries
+/// above 15k/8 lowers theta to the (k+1)th smallest hash, and exactly the k entries below it stay.
 ///
 /// It stores its entries by open addressing in at most 2k slots. Only contracts see the counts of its work; those of
 /// `insert_hashes` say only that the count of looks doesn't decrease.
@@ -105,8 +114,8 @@ impl<E: SlotEntry, A: Allocator> Model for SketchHashTable<E, A> {
 }
 
 impl<E: SlotEntry, A: Allocator> SketchHashTable<E, A> {
-    /// An empty table of 2^`lg_nom_size` nominal entries, with `lg_nom_size` from 4 to 26, and a starting theta from 1
-    /// to `MAX_THETA`.
+    /// An empty table of 2^`lg_nom_size` nominal entries, with `lg_nom_size` from 4 to 26, and a starting theta from
+    /// 1 to `MAX_THETA`.
     ///
     /// Refused with `InvalidArgument` outside these ranges and for a seed whose seed hash is 0; with `OutOfMemory` if
     /// memory runs out. The resize factor, by which the slots grow, has no effect on the retained entries and theta.
@@ -121,7 +130,8 @@ impl<E: SlotEntry, A: Allocator> SketchHashTable<E, A> {
         A: Drop,
         ensures made { IfOk result (λ t. t.map ≡ empty_table lg_nom_size starting_theta seed) }
         ensures refused { Refuses result (settings_refusal lg_nom_size starting_theta seed) true }
-        ensures sized { IfOk result (λ t. t.layout.lg_cur ≡ sub_multiple (lg_nom_size + 1) MIN_LG_SLOTS (lg_of resize_factor)) }
+        ensures sized { IfOk result (λ t.
+            t.layout.lg_cur ≡ sub_multiple (lg_nom_size + 1) MIN_LG_SLOTS (lg_of resize_factor)) }
         ensures grows { IfOk result (λ t. t.layout.grow ≡ lg_of resize_factor) }
         ensures nothing_done { IfOk result (λ t. t.counts ≡ nothing_done) }
     {
@@ -170,7 +180,8 @@ impl<E: SlotEntry, A: Allocator> SketchHashTable<E, A> {
         requires theta_low { 0 < retention_theta }
         requires theta_high { retention_theta ≤ MAX_THETA }
         requires of_seed { IsSeedHash seed seed_hash }
-        ensures made { IfOk result (λ t. t.map ≡ set_table lg_nom_size (not (lg_cur_size == 0)) retention_theta seed seed_hash) }
+        ensures made { IfOk result (λ t.
+            t.map ≡ set_table lg_nom_size (not (lg_cur_size == 0)) retention_theta seed seed_hash) }
         ensures refused { Refuses result None (not (lg_cur_size == 0)) }
         ensures slots { IfOk result (λ t. length t.layout.slots ≡ slots_of_operator lg_cur_size) }
         ensures nothing_done { IfOk result (λ t. t.counts ≡ nothing_done) }
@@ -195,8 +206,8 @@ impl<E: SlotEntry, A: Allocator> SketchHashTable<E, A> {
         })
     }
 
-    /// The binary logarithm of a number of slots of which `count` entries are at most fifteen sixteenths, so that they
-    /// are rebuilt only beyond `count` entries. From 1, for no entry or one, to 65.
+    /// The binary logarithm of a number of slots of which `count` entries are at most fifteen sixteenths, so that
+    /// they are rebuilt only beyond `count` entries. From 1, for no entry or one, to 65.
     pub fn lg_size_from_count_for_rebuild(count: usize) -> u8
         ensures { result ≡ lg_size_for count }
     {
@@ -209,13 +220,16 @@ impl<E: SlotEntry, A: Allocator> SketchHashTable<E, A> {
         }
     }
 
-    /// How many entries its slots may have before they grow or are rebuilt: half of the slots while they can grow, then
-    /// fifteen sixteenths, which is 15k/8 in a table of `new`; 0 without slots.
+    /// How many entries its slots may have before they grow or are rebuilt: half of the slots while they can grow,
+    /// then fifteen sixteenths, which is 15k/8 in a table of `new`; 0 without slots.
     pub fn capacity_threshold(&self) -> usize
-        ensures threshold { self.now.map.has_slots ≡ true → result ≡ threshold self.now.layout.lg_cur self.now.map.lg_nom }
+        ensures threshold { self.now.map.has_slots ≡ true
+            → result ≡ threshold self.now.layout.lg_cur self.now.map.lg_nom }
         ensures none { self.now.map.has_slots ≡ false → result ≡ 0 }
-        ensures laid_out { self.now.map.has_slots ≡ true → IsLaidOut E.key self.now.layout.lg_cur self.now.layout.slots }
-        ensures limited { self.now.map.has_slots ≡ true → length self.now.map.kept.entries ≤ threshold self.now.layout.lg_cur self.now.map.lg_nom }
+        ensures laid_out { self.now.map.has_slots ≡ true
+            → IsLaidOut E.key self.now.layout.lg_cur self.now.layout.slots }
+        ensures limited { self.now.map.has_slots ≡ true
+            → length self.now.map.kept.entries ≤ threshold self.now.layout.lg_cur self.now.map.lg_nom }
         ensures slots { self.now.map.has_slots ≡ true → self.now.layout.lg_cur ≤ self.now.map.lg_nom + 1 }
         ensures rebuilds { 7 * 2 ^ self.now.map.lg_nom * self.now.counts.rebuilds ≤ 8 * self.now.counts.inserted }
         ensures placed { self.now.counts.trims ≡ 0 → self.now.counts.placed ≤ 3 * self.now.counts.inserted }
@@ -260,7 +274,8 @@ impl<E: SlotEntry, A: Allocator> SketchHashTable<E, A> {
         requires low { 0 < retention_theta }
         requires high { retention_theta ≤ MAX_THETA }
         requires above { AllByRecursion (λ x. E.key x < retention_theta) self.old.map.kept.entries }
-        ensures after { self.new.map ≡ record self.old.map { kept = record self.old.map.kept { theta = retention_theta } } }
+        ensures after { self.new.map
+            ≡ record self.old.map { kept = record self.old.map.kept { theta = retention_theta } } }
         ensures layout { self.new.layout ≡ self.old.layout }
         ensures counts { self.new.counts ≡ self.old.counts }
     {
@@ -301,8 +316,8 @@ impl<E: SlotEntry, A: Allocator> SketchHashTable<E, A> {
         E::in_slot(&self.slots[place.at])
     }
 
-    /// The hash of a value under the table's seed: the first half of MurmurHash3 x64 128 over the bytes that the value
-    /// writes, shifted right by one, so of 63 bits.
+    /// The hash of a value under the table's seed: the first half of MurmurHash3 x64 128 over the bytes that the
+    /// value writes, shifted right by one, so of 63 bits.
     pub fn hash<T: Hash + Drop>(&self, value: T) -> u64
         ensures { result ≡ hash_of self.now.map.seed (concat (T.hash_input value)) }
     {
@@ -334,12 +349,13 @@ impl<E: SlotEntry, A: Allocator> SketchHashTable<E, A> {
 }
 
 impl<E: SlotEntry, A: Allocator> SketchHashTable<E, A> {
-    /// Removes all entries and restores the starting theta and the starting number of slots. It allocates nothing. The
-    /// table must be one of a sketch, whose nominal logarithm is at least 4.
+    /// Removes all entries and restores the starting theta and the starting number of slots. It allocates nothing.
+    /// The table must be one of a sketch, whose nominal logarithm is at least 4.
     pub fn reset(&mut self)
         requires of_sketch { MIN_LG_K ≤ self.old.map.lg_nom }
         ensures after { self.new.map ≡ after_reset self.old.map }
-        ensures size { self.new.layout.lg_cur ≡ sub_multiple (self.old.map.lg_nom + 1) MIN_LG_SLOTS self.old.layout.grow }
+        ensures size { self.new.layout.lg_cur
+            ≡ sub_multiple (self.old.map.lg_nom + 1) MIN_LG_SLOTS self.old.layout.grow }
         ensures grows { self.new.layout.grow ≡ self.old.layout.grow }
         ensures nothing_done { self.new.counts ≡ nothing_done }
     {
@@ -356,7 +372,8 @@ impl<E: SlotEntry, A: Allocator> SketchHashTable<E, A> {
     pub fn clear(&mut self)
         ensures after { self.new.map ≡ record self.old.map { kept = none_below self.old.map.kept.theta } }
         ensures size { length self.new.layout.slots ≡ length self.old.layout.slots }
-        ensures layout { (self.new.layout.lg_cur ≡ self.old.layout.lg_cur) × (self.new.layout.grow ≡ self.old.layout.grow) }
+        ensures layout { (self.new.layout.lg_cur ≡ self.old.layout.lg_cur)
+            × (self.new.layout.grow ≡ self.old.layout.grow) }
         ensures counts { self.new.counts ≡ self.old.counts }
     {
         let size = self.slots.len();
@@ -368,9 +385,9 @@ impl<E: SlotEntry, A: Allocator> SketchHashTable<E, A> {
 impl<E: SlotEntry + Drop, A: Allocator + Clone> SketchHashTable<E, A> {
     /// Inserts a hash: the step writes the entry that has it, or else makes one. Returns whether it made an entry.
     ///
-    /// A hash that is 0 or at least theta is screened: no step is called, nothing changes and the result is false. Any
-    /// other hash must be retained already, or there must be room for one more entry. Refused with the step's error, or
-    /// with `OutOfMemory`; then nothing has changed.
+    /// A hash that is 0 or at least theta is screened: no step is called, nothing changes and the result is false.
+    /// Any other hash must be retained already, or there must be room for one more entry. Refused with the step's
+    /// error, or with `OutOfMemory`; then nothing has changed.
     ///
     /// Below `capacity_threshold` an insertion is refused memory only if its step may allocate.
     #[inline(always)]
@@ -388,11 +405,13 @@ impl<E: SlotEntry + Drop, A: Allocator + Clone> SketchHashTable<E, A> {
         ensures refused { RefusesUpsert result E.key hash (S.means step) self.old.map.kept }
         ensures looks { AreFewLooks self.old self.new }
         ensures memory { RefusesBelowThreshold result E.key hash (S.means step) self.old }
-        ensures ticked { IfOk result (λ created. self.new.counts ≡ record (counts_after self.old created) { looks = self.new.counts.looks }) }
+        ensures ticked { IfOk result (λ created.
+            self.new.counts ≡ record (counts_after self.old created) { looks = self.new.counts.looks }) }
         ensures unticked { OnErr result (self.new.counts ≡ record self.old.counts { looks = self.new.counts.looks }) }
         ensures sized { IfOk result (λ created. self.new.layout.lg_cur ≡ lg_cur_after self.old created) }
         ensures grows { self.new.layout.grow ≡ self.old.layout.grow }
-        ensures seldom { (self.new.counts.rebuilds ≡ self.old.counts.rebuilds) ⊎ (7 * 2 ^ self.old.map.lg_nom < 8 * (self.old.counts.fresh + 1)) }
+        ensures seldom { (self.new.counts.rebuilds ≡ self.old.counts.rebuilds)
+            ⊎ (7 * 2 ^ self.old.map.lg_nom < 8 * (self.old.counts.fresh + 1)) }
         ensures looked { AreEnoughLooks hash self.old self.new }
         ensures looks_kept { self.old.counts.looks ≤ self.new.counts.looks }
         ensures screened { IsUncountedIfScreened hash self.old self.new }
@@ -406,8 +425,8 @@ impl<E: SlotEntry + Drop, A: Allocator + Clone> SketchHashTable<E, A> {
         self.upsert_at(hash, place, step)
     }
 
-    /// Does what `upsert_entry` does, at the place where a search for the hash ended, which isn't screened. It counts the
-    /// looks of growth or a rebuild alone.
+    /// Does what `upsert_entry` does, at the place where a search for the hash ended, which isn't screened. It counts
+    /// the looks of growth or a rebuild alone.
     #[inline(always)]
     fn upsert_at<S: UpsertStep<E> + Drop>(
         &mut self,
@@ -428,13 +447,17 @@ impl<E: SlotEntry + Drop, A: Allocator + Clone> SketchHashTable<E, A> {
         ensures err { OnErr result (self.new.map ≡ self.old.map) }
         ensures refused { RefusesUpsert result E.key hash (S.means step) self.old.map.kept }
         ensures memory { RefusesBelowThreshold result E.key hash (S.means step) self.old }
-        ensures ticked { IfOk result (λ created. self.new.counts ≡ record (counts_after self.old created) { looks = self.new.counts.looks }) }
+        ensures ticked { IfOk result (λ created.
+            self.new.counts ≡ record (counts_after self.old created) { looks = self.new.counts.looks }) }
         ensures unticked { OnErr result (self.new.counts ≡ record self.old.counts { looks = self.new.counts.looks }) }
         ensures sized { IfOk result (λ created. self.new.layout.lg_cur ≡ lg_cur_after self.old created) }
         ensures grows { self.new.layout.grow ≡ self.old.layout.grow }
-        ensures seldom { (self.new.counts.rebuilds ≡ self.old.counts.rebuilds) ⊎ (7 * 2 ^ self.old.map.lg_nom < 8 * (self.old.counts.fresh + 1)) }
-        ensures looks { LooksAtPlaced (self.new.counts.placed - self.old.counts.placed) self.old.counts.looks self.new.counts.looks }
-        ensures looked { LooksForEach (self.new.counts.placed - self.old.counts.placed) self.old.counts.looks self.new.counts.looks }
+        ensures seldom { (self.new.counts.rebuilds ≡ self.old.counts.rebuilds)
+            ⊎ (7 * 2 ^ self.old.map.lg_nom < 8 * (self.old.counts.fresh + 1)) }
+        ensures looks { LooksAtPlaced (self.new.counts.placed - self.old.counts.placed) self.old.counts.looks
+            self.new.counts.looks }
+        ensures looked { LooksForEach (self.new.counts.placed - self.old.counts.placed) self.old.counts.looks
+            self.new.counts.looks }
         ensures layout_err { OnErr result (self.new.layout ≡ self.old.layout) }
     {
         if !place.is_free {
@@ -467,8 +490,8 @@ impl<E: SlotEntry + Drop, A: Allocator + Clone> SketchHashTable<E, A> {
         }
     }
 
-    /// Does what `upsert_entry` does, if the search for the hash ends within `NEAR` looks at slots, and returns whether
-    /// it did. Otherwise nothing changes. Refused as `upsert_entry` is.
+    /// Does what `upsert_entry` does, if the search for the hash ends within `NEAR` looks at slots, and returns
+    /// whether it did. Otherwise nothing changes. Refused as `upsert_entry` is.
     #[inline(always)]
     pub fn upsert_near<S: UpsertStep<E> + Drop>(
         &mut self,
@@ -598,8 +621,8 @@ impl<E: SlotEntry + Clone, A: Allocator + Clone> SketchHashTable<E, A> {
 impl<E: SlotEntry + Clone, A: Allocator + Clone> SketchHashTable<E, A> {
     /// A table of 2^`lg_nom_size` nominal entries, from 2^4 to its own number, with the resize factor, starting theta
     /// and seed of this one. It retains the entries of this one below `theta`, from 1 to this table's theta, cut to
-    /// 2^`lg_nom_size`. This table is unchanged. The memory is from clones of its allocator. Refused with `OutOfMemory`
-    /// alone.
+    /// 2^`lg_nom_size`. This table is unchanged. The memory is from clones of its allocator. Refused with
+    /// `OutOfMemory` alone.
     pub fn to_smaller_table(&self, lg_nom_size: u8, theta: u64) -> Result<Self, Error>
         requires clones_equal { ClonesEqual E.is_clone }
         requires of_sketch { MIN_LG_K ≤ lg_nom_size }
@@ -690,8 +713,8 @@ fn slots_holding<E: SlotEntry + Drop, A: Allocator>(
 
 impl<E: SlotEntry + Drop, A: Allocator + Clone> SketchHashTable<E, A> {
     /// Replaces its entries by others, whose hashes are distinct, from 1 to below its theta, and at most 15k/8. There
-    /// must be at least 8 nominal entries, as in every table of `new`. The slots are laid out at once, and the counts of
-    /// its work begin anew. Refused with `OutOfMemory` alone; then nothing has changed.
+    /// must be at least 8 nominal entries, as in every table of `new`. The slots are laid out at once, and the counts
+    /// of its work begin anew. Refused with `OutOfMemory` alone; then nothing has changed.
     pub fn refill(&mut self, entries: Vec<E, A>) -> Result<(), Error>
         requires of_sketch { 3 ≤ self.old.map.lg_nom }
         requires fill { IsFill E.key (15 * 2 ^ self.old.map.lg_nom / 8) self.old.map.kept.theta entries.items }
@@ -731,24 +754,30 @@ impl<E: SlotEntry + Drop, A: Allocator + Clone> SketchHashTable<E, A> {
 pub type ThetaHashTable<A = Global> = SketchHashTable<ThetaEntry, A>;
 
 impl<A: Allocator + Clone> SketchHashTable<ThetaEntry, A> {
-    /// Inserts the hash of a value, and returns whether it is new and below theta. For such a hash the caller must know
-    /// that there is room (`has_room`), as there always is in a table of `new`. Refused as `try_insert_hash` is.
+    /// Inserts the hash of a value, and returns whether it is new and below theta. For such a hash the caller must
+    /// know that there is room (`has_room`), as there always is in a table of `new`. Refused as `try_insert_hash` is.
     #[inline(always)]
     pub fn try_insert<T: Hash + Drop>(&mut self, value: T) -> Result<bool, Error>
-        requires room { let h = key_hash self.old.map (T.hash_input value) in IsTrue (may_insert hash_key h self.old.map) }
-        ensures ok { let h = key_hash self.old.map (T.hash_input value) in IfOk result (λ created. created ≡ creates_hash h self.old.map.kept) }
-        ensures after { let h = key_hash self.old.map (T.hash_input value) in OnOk result (self.new.map ≡ after_hash h self.old.map) }
+        requires room { let h = key_hash self.old.map (T.hash_input value) in
+            IsTrue (may_insert hash_key h self.old.map) }
+        ensures ok { let h = key_hash self.old.map (T.hash_input value) in
+            IfOk result (λ created. created ≡ creates_hash h self.old.map.kept) }
+        ensures after { let h = key_hash self.old.map (T.hash_input value) in
+            OnOk result (self.new.map ≡ after_hash h self.old.map) }
         ensures err { OnErr result (self.new.map ≡ self.old.map) }
-        ensures refused { let h = key_hash self.old.map (T.hash_input value) in Refuses result None (hash_allocates h self.old.map.kept) }
+        ensures refused { let h = key_hash self.old.map (T.hash_input value) in
+            Refuses result None (hash_allocates h self.old.map.kept) }
         ensures memory { IsBelowThreshold self.old → IsOk result }
-        ensures ticked { IfOk result (λ created. self.new.counts ≡ record (counts_after self.old created) { looks = self.new.counts.looks }) }
+        ensures ticked { IfOk result (λ created.
+            self.new.counts ≡ record (counts_after self.old created) { looks = self.new.counts.looks }) }
         ensures unticked { OnErr result (self.new.counts ≡ record self.old.counts { looks = self.new.counts.looks }) }
         ensures sized { IfOk result (λ created. self.new.layout.lg_cur ≡ lg_cur_after self.old created) }
         ensures grows { self.new.layout.grow ≡ self.old.layout.grow }
         ensures looks { AreFewLooks self.old self.new }
         ensures looked { let h = key_hash self.old.map (T.hash_input value) in AreEnoughLooks h self.old self.new }
         ensures looks_kept { self.old.counts.looks ≤ self.new.counts.looks }
-        ensures screened { let h = key_hash self.old.map (T.hash_input value) in IsUncountedIfScreened h self.old self.new }
+        ensures screened { let h = key_hash self.old.map (T.hash_input value) in
+            IsUncountedIfScreened h self.old self.new }
         ensures layout_err { OnErr result (self.new.layout ≡ self.old.layout) }
     {
         let hash = self.hash(value);
@@ -767,7 +796,8 @@ impl<A: Allocator + Clone> SketchHashTable<ThetaEntry, A> {
         ensures err { OnErr result (self.new.map ≡ self.old.map) }
         ensures refused { Refuses result None (hash_allocates hash self.old.map.kept) }
         ensures memory { IsBelowThreshold self.old → IsOk result }
-        ensures ticked { IfOk result (λ created. self.new.counts ≡ record (counts_after self.old created) { looks = self.new.counts.looks }) }
+        ensures ticked { IfOk result (λ created.
+            self.new.counts ≡ record (counts_after self.old created) { looks = self.new.counts.looks }) }
         ensures unticked { OnErr result (self.new.counts ≡ record self.old.counts { looks = self.new.counts.looks }) }
         ensures sized { IfOk result (λ created. self.new.layout.lg_cur ≡ lg_cur_after self.old created) }
         ensures grows { self.new.layout.grow ≡ self.old.layout.grow }
@@ -818,8 +848,8 @@ impl<A: Allocator + Clone> SketchHashTable<ThetaEntry, A> {
         self.insert_each(&block[..left])
     }
 
-    /// Copies into `block` the hashes that are neither screened nor found at once, in their order, and returns how many
-    /// they are.
+    /// Copies into `block` the hashes that are neither screened nor found at once, in their order, and returns how
+    /// many they are.
     fn copy_unfound(&self, hashes: &[u64], block: &mut [u64]) -> usize
         requires room { 3 ≤ self.now.map.lg_nom }
         requires limited { length hashes.now ≤ length block.old }
@@ -872,23 +902,27 @@ impl<S: Drop, A: Allocator + Clone> SketchHashTable<TupleEntry<S>, A> {
         key: T,
         step: U,
     ) -> Result<bool, Error>
-        requires room { let h = key_hash self.old.map (T.hash_input key) in IsTrue (may_insert tuple_key h self.old.map) }
+        requires room { let h = key_hash self.old.map (T.hash_input key) in
+            IsTrue (may_insert tuple_key h self.old.map) }
         ensures ok { let h = key_hash self.old.map (T.hash_input key) in
             IfOk result (λ created. created ≡ creates_tuple h (U.means step) self.old.map.kept) }
-        ensures after { let h = key_hash self.old.map (T.hash_input key) in OnOk result (self.new.map ≡ after_tuple h (U.means step) self.old.map) }
+        ensures after { let h = key_hash self.old.map (T.hash_input key) in
+            OnOk result (self.new.map ≡ after_tuple h (U.means step) self.old.map) }
         ensures err { OnErr result (self.new.map ≡ self.old.map) }
         ensures refused { let h = key_hash self.old.map (T.hash_input key) in
             RefusesUpsert result tuple_key h (entry_step h (U.means step)) self.old.map.kept }
         ensures memory { let h = key_hash self.old.map (T.hash_input key) in
             RefusesBelowThreshold result tuple_key h (entry_step h (U.means step)) self.old }
-        ensures ticked { IfOk result (λ created. self.new.counts ≡ record (counts_after self.old created) { looks = self.new.counts.looks }) }
+        ensures ticked { IfOk result (λ created.
+            self.new.counts ≡ record (counts_after self.old created) { looks = self.new.counts.looks }) }
         ensures unticked { OnErr result (self.new.counts ≡ record self.old.counts { looks = self.new.counts.looks }) }
         ensures sized { IfOk result (λ created. self.new.layout.lg_cur ≡ lg_cur_after self.old created) }
         ensures grows { self.new.layout.grow ≡ self.old.layout.grow }
         ensures looks { AreFewLooks self.old self.new }
         ensures looked { let h = key_hash self.old.map (T.hash_input key) in AreEnoughLooks h self.old self.new }
         ensures looks_kept { self.old.counts.looks ≤ self.new.counts.looks }
-        ensures screened { let h = key_hash self.old.map (T.hash_input key) in IsUncountedIfScreened h self.old self.new }
+        ensures screened { let h = key_hash self.old.map (T.hash_input key) in
+            IsUncountedIfScreened h self.old self.new }
         ensures layout_err { OnErr result (self.new.layout ≡ self.old.layout) }
     {
         let hash = self.hash(key);
@@ -897,9 +931,9 @@ impl<S: Drop, A: Allocator + Clone> SketchHashTable<TupleEntry<S>, A> {
 
     /// Inserts a hash: the step writes the existing summary, or else makes one. Returns whether it made an entry.
     ///
-    /// A hash that is 0 or at least theta is screened: no step is called, nothing changes and the result is false. For
-    /// any other hash the caller must know that it is retained, or that there is room (`has_room`), as there always is
-    /// in a table of `new`. Refused with the step's error, or with `OutOfMemory`; then nothing has changed.
+    /// A hash that is 0 or at least theta is screened: no step is called, nothing changes and the result is false.
+    /// For any other hash the caller must know that it is retained, or that there is room (`has_room`), as there
+    /// always is in a table of `new`. Refused with the step's error, or with `OutOfMemory`; then nothing has changed.
     #[inline(always)]
     pub fn try_insert_hash<U: UpsertStep<S> + Drop>(
         &mut self,
@@ -912,7 +946,8 @@ impl<S: Drop, A: Allocator + Clone> SketchHashTable<TupleEntry<S>, A> {
         ensures err { OnErr result (self.new.map ≡ self.old.map) }
         ensures refused { RefusesUpsert result tuple_key hash (entry_step hash (U.means step)) self.old.map.kept }
         ensures memory { RefusesBelowThreshold result tuple_key hash (entry_step hash (U.means step)) self.old }
-        ensures ticked { IfOk result (λ created. self.new.counts ≡ record (counts_after self.old created) { looks = self.new.counts.looks }) }
+        ensures ticked { IfOk result (λ created.
+            self.new.counts ≡ record (counts_after self.old created) { looks = self.new.counts.looks }) }
         ensures unticked { OnErr result (self.new.counts ≡ record self.old.counts { looks = self.new.counts.looks }) }
         ensures sized { IfOk result (λ created. self.new.layout.lg_cur ≡ lg_cur_after self.old created) }
         ensures grows { self.new.layout.grow ≡ self.old.layout.grow }

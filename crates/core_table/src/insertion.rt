@@ -1,11 +1,13 @@
 //! Insertions into the slots of a table: sizes, growth and rebuilds.
-ghost use Rattle.std.specs.Prelude.{◌≡◌, ◌+◌, ◌-◌, ◌*◌, ◌/◌, ◌<◌, ◌≤◌, ◌^◌, true, false, None, Some, IsSome, length, map, IfOk, IsOk, OnOk, OnErr};
+ghost use Rattle.std.specs.Prelude.{◌≡◌, ◌+◌, ◌-◌, ◌*◌, ◌/◌, ◌<◌, ◌≤◌, ◌^◌, true, false, None, Some, IsSome};
+ghost use Rattle.std.specs.Prelude.{length, map, IfOk, IsOk, OnOk, OnErr};
 ghost use Rattle.core_laws.specs.Cuts.{cut};
 ghost use Rattle.core_laws.specs.Maps.{with_entry};
 ghost use Rattle.core_laws.specs.Refusal.{Refuses};
 ghost use Rattle.core_slots.specs.SlotLayout.{slot, IsLaidOut, entries_in, slot_map};
 ghost use Rattle.core_slots.specs.Placing.{LooksForEach, LooksAtPlaced};
-ghost use Rattle.core_table.specs.HashTable.{threshold, HasSize, sub_multiple, ticked, ticked_if, size_after, count_after};
+ghost use Rattle.core_table.specs.HashTable.{threshold, HasSize, sub_multiple, ticked, ticked_if, size_after};
+ghost use Rattle.core_table.specs.HashTable.{count_after};
 ghost use Rattle.core_table.specs.Insertion.{HasPlaceFor, kept_in, after_put, grown, IsCutOf, IsWritten};
 
 use core_laws::{MIN_LG_K, MIN_LG_SLOTS};
@@ -51,8 +53,8 @@ pub(crate) struct Sizes {
 }
 
 /// The binary logarithm of the slots that a table begins with: the least that is at least `lg_min` and from which
-/// growth by `lg_resize_factor` reaches `lg_target`; `lg_target` itself if the factor is 0, and `lg_min` if `lg_target`
-/// is less.
+/// growth by `lg_resize_factor` reaches `lg_target`; `lg_target` itself if the factor is 0, and `lg_min` if
+/// `lg_target` is less.
 pub fn starting_sub_multiple(lg_target: u8, lg_min: u8, lg_resize_factor: u8) -> u8
     ensures { result ≡ sub_multiple lg_target lg_min lg_resize_factor }
 {
@@ -77,8 +79,8 @@ pub(crate) fn starting_size(lg_nom: u8, grow: u8) -> u8
     starting_sub_multiple(lg_nom + 1, MIN_LG_SLOTS, grow)
 }
 
-/// The binary logarithm of the slots that a table with 2^`lg_cur` slots has once it has grown for `count` entries, which
-/// are at most fifteen eighths of the nominal ones.
+/// The binary logarithm of the slots that a table with 2^`lg_cur` slots has once it has grown for `count` entries,
+/// which are at most fifteen eighths of the nominal ones.
 pub(crate) fn size_for(lg_cur: u8, lg_nom: u8, grow: u8, count: usize) -> u8
     requires sized { HasSize lg_cur lg_nom grow 0 }
     requires large { 3 ≤ lg_nom }
@@ -107,8 +109,8 @@ pub(crate) fn threshold_of(lg_cur: u8, lg_nom: u8) -> usize
     }
 }
 
-/// Puts an entry into the free slot where a search for it ends. If the slots then have more entries than they may, they
-/// grow or are rebuilt. Returns the new sizes and theta.
+/// Puts an entry into the free slot where a search for it ends. If the slots then have more entries than they may,
+/// they grow or are rebuilt. Returns the new sizes and theta.
 #[inline(always)]
 pub(crate) fn put_entry<E: SlotEntry + Drop, A: Allocator + Clone>(
     slots: &mut Vec<E::Slot, A>,
@@ -133,7 +135,9 @@ pub(crate) fn put_entry<E: SlotEntry + Drop, A: Allocator + Clone>(
     ensures err { OnErr result (slots.new.items ≡ slots.old.items) }
     ensures looks { LooksAtPlaced (counts.new.placed - counts.old.placed) counts.old.looks counts.new.looks }
     ensures looked { LooksForEach (counts.new.placed - counts.old.placed) counts.old.looks counts.new.looks }
-    ensures ticked { OnOk result (counts.new ≡ record (ticked sizes.lg_cur sizes.lg_nom sizes.count counts.old) { looks = counts.new.looks }) }
+    ensures ticked { OnOk result
+        (counts.new
+        ≡ record (ticked sizes.lg_cur sizes.lg_nom sizes.count counts.old) { looks = counts.new.looks }) }
     ensures unticked { OnErr result (counts.new ≡ record counts.old { looks = counts.new.looks }) }
 {
     let more = sizes.count + 1;
@@ -150,8 +154,8 @@ pub(crate) fn put_entry<E: SlotEntry + Drop, A: Allocator + Clone>(
     Ok(settled)
 }
 
-/// Puts an entry into slots that may have no more of them: they grow or are rebuilt. It is inlined into the branch that
-/// has checked this, so that only that branch writes the sizes to memory.
+/// Puts an entry into slots that may have no more of them: they grow or are rebuilt. It is inlined into the branch
+/// that has checked this, so that only that branch writes the sizes to memory.
 #[inline(always)]
 fn overflow<E: SlotEntry + Drop, A: Allocator + Clone>(
     slots: &mut Vec<E::Slot, A>,
@@ -176,7 +180,9 @@ fn overflow<E: SlotEntry + Drop, A: Allocator + Clone>(
     ensures err { OnErr result (slots.new.items ≡ slots.old.items) }
     ensures looks { LooksAtPlaced (counts.new.placed - counts.old.placed) counts.old.looks counts.new.looks }
     ensures looked { LooksForEach (counts.new.placed - counts.old.placed) counts.old.looks counts.new.looks }
-    ensures ticked { OnOk result (counts.new ≡ record (ticked sizes.lg_cur sizes.lg_nom sizes.count counts.old) { looks = counts.new.looks }) }
+    ensures ticked { OnOk result
+        (counts.new
+        ≡ record (ticked sizes.lg_cur sizes.lg_nom sizes.count counts.old) { looks = counts.new.looks }) }
     ensures unticked { OnErr result (counts.new ≡ record counts.old { looks = counts.new.looks }) }
 {
     let full = sizes;
@@ -201,12 +207,16 @@ fn grow<E: SlotEntry + Drop, A: Allocator + Clone>(
     requires growing { sizes.lg_cur ≤ sizes.lg_nom }
     requires inside { at < length slots.old.items }
     ensures laid_out { IfOk result (λ s. IsLaidOut E.key s.lg_cur (map E.content slots.new.items)) }
-    ensures after { OnOk result (slot_map E.key E.content slots.new.items ≡ with_entry E.key (slot_map E.key E.content slots.old.items) entry) }
+    ensures after { OnOk result
+        (slot_map E.key E.content slots.new.items
+        ≡ with_entry E.key (slot_map E.key E.content slots.old.items) entry) }
     ensures same { IfOk result (λ s. s ≡ grown sizes) }
     ensures err { OnErr result (slots.new.items ≡ slots.old.items) }
     ensures looks { LooksAtPlaced (counts.new.placed - counts.old.placed) counts.old.looks counts.new.looks }
     ensures looked { LooksForEach (counts.new.placed - counts.old.placed) counts.old.looks counts.new.looks }
-    ensures ticked { OnOk result (counts.new ≡ record (ticked_if false true (2 ^ sizes.lg_nom) sizes.count counts.old) { looks = counts.new.looks }) }
+    ensures ticked { OnOk result
+        (counts.new
+        ≡ record (ticked_if false true (2 ^ sizes.lg_nom) sizes.count counts.old) { looks = counts.new.looks }) }
     ensures unticked { OnErr result (counts.new ≡ record counts.old { looks = counts.new.looks }) }
 {
     let lg_cur = (sizes.lg_cur + sizes.grow).min(sizes.lg_nom + 1);
@@ -311,7 +321,9 @@ pub(crate) fn write_at<E: SlotEntry + Drop, S: UpsertStep<E> + Drop>(
 ) -> Result<(), Error>
     requires inside { at < length slots.old }
     requires taken { IsSome (slot (map E.content slots.old) at) }
-    requires nonzero { (x : E) → slot (map E.content slots.old) at ≡ Some x → (0 < E.key x) × (0 < E.key ((S.means step).writes x)) }
+    requires nonzero { (x : E)
+        → slot (map E.content slots.old) at ≡ Some x
+        → (0 < E.key x) × (0 < E.key ((S.means step).writes x)) }
     ensures ok { OnOk result (IsWritten at (S.means step).writes (map E.content slots.old) (map E.content slots.new)) }
     ensures err { OnErr result (map E.content slots.new ≡ map E.content slots.old) }
     ensures size { length slots.new ≡ length slots.old }

@@ -1,5 +1,6 @@
 //! The iterator over the entries of a table. Contracts see it as the entries that it has left.
-ghost use Rattle.std.specs.Prelude.{◌≡◌, ◌^◌, ◌-◌, ◌≤◌, [], ◌∷◌, None, false, if◌then◌else◌, is_some, nat_lt, length, map, IsSome, IfSome, MatchOption};
+ghost use Rattle.std.specs.Prelude.{◌≡◌, ◌^◌, ◌-◌, ◌≤◌, [], ◌∷◌, None, false, if◌then◌else◌, is_some, nat_lt};
+ghost use Rattle.std.specs.Prelude.{length, map, IsSome, IfSome, MatchOption};
 ghost use Rattle.std.specs.Iterator.{YieldsFirstRef, UpTo, item_count};
 ghost use Rattle.std.specs.List.{AllByRecursion};
 ghost use Rattle.std.specs.Option.{option_copied};
@@ -108,7 +109,8 @@ fn marks_of<E: SlotEntry>(slots: &[E::Slot], bound: Option<u64>) -> u64
 #[inline(always)]
 fn marked_from<'a, E: SlotEntry + 'a>(slots: &'a [E::Slot], bound: Option<u64>) -> Marked<'a, E>
     ensures marked { AreMarked (map (under E.key bound E.content) result.slots.now) result.ahead result.marks }
-    ensures same { filled (map (under E.key bound E.content) result.slots.now) ≡ filled (map (under E.key bound E.content) slots.entry.now) }
+    ensures same { filled (map (under E.key bound E.content) result.slots.now)
+        ≡ filled (map (under E.key bound E.content) slots.entry.now) }
     ensures none { result.marks ≡ 0 → filled (map (under E.key bound E.content) result.slots.now) ≡ [] }
 {
     let mut left = slots;
@@ -136,7 +138,8 @@ fn marked_from<'a, E: SlotEntry + 'a>(slots: &'a [E::Slot], bound: Option<u64>) 
 fn marked_ahead<'a, E: SlotEntry + 'a>(rest: Marked<'a, E>, bound: Option<u64>) -> Marked<'a, E>
     requires marked { AreMarked (map (under E.key bound E.content) rest.slots.now) rest.ahead rest.marks }
     ensures marked { AreMarked (map (under E.key bound E.content) result.slots.now) result.ahead result.marks }
-    ensures same { filled (map (under E.key bound E.content) result.slots.now) ≡ filled (map (under E.key bound E.content) rest.entry.slots.now) }
+    ensures same { filled (map (under E.key bound E.content) result.slots.now)
+        ≡ filled (map (under E.key bound E.content) rest.entry.slots.now) }
     ensures none { result.marks ≡ 0 → filled (map (under E.key bound E.content) result.slots.now) ≡ [] }
 {
     if rest.marks != 0 {
@@ -215,8 +218,8 @@ impl<'a, E: SlotEntry + 'a> SketchHashTableIter<'a, E> {
         ensures { self.new ≡ from_below E.key theta self.old }
     {
         let slots = slots_from_below::<E>(self.rest.slots, theta);
-        // Only the first slot: the caller takes its entry and mostly passes on, so the marks of a whole block would be
-        // lost.
+        // Only the first slot: the caller takes its entry and mostly passes on, so the marks of a whole block would
+        // be lost.
         let ahead = slots.len().min(1);
         let marks = marks_of::<E>(&slots[..ahead], None);
         self.rest = Marked {

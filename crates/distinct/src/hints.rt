@@ -13,8 +13,8 @@ pub struct Hint<'a> {
     pub words: &'a [String],
 }
 
-/// Whether a file of this flaw may be one of lines: it is short, or no sketch has its family, or its third byte is a tab, an
-/// LF or a CR, or that of a gzip file.
+/// Whether a file of this flaw may be one of lines: it is short, or no sketch has its family, or its third byte is a
+/// tab, an LF or a CR, or that of a gzip file.
 fn may_have_lines(flaw: Flaw) -> bool {
     match flaw {
         Flaw::Short => true,

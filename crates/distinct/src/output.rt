@@ -19,12 +19,12 @@ pub fn put_file(rt: &HostRuntime, name: &str, bytes: &[u8]) -> Result<(), Failur
     }
 }
 
-/// The longest name of a file of a group, in bytes: most systems allow 255, and the name of the new file beside it has
-/// up to 9 more.
+/// The longest name of a file of a group, in bytes: most systems allow 255, and the name of the new file beside it
+/// has up to 9 more.
 const LONGEST_FILE: usize = 246;
 
-/// Writes the files of groups into a folder, which is made if it is missing. If a name is too long, nothing is written.
-/// Each file is written all or nothing; if one fails, those before it stay.
+/// Writes the files of groups into a folder, which is made if it is missing. If a name is too long, nothing is
+/// written. Each file is written all or nothing; if one fails, those before it stay.
 pub fn put_files(rt: &HostRuntime, folder: &str, files: &[GroupFile]) -> Result<(), Failure> {
     let alloc = rt.alloc();
     for file in files {
@@ -93,8 +93,8 @@ fn write_file(rt: &HostRuntime, name: &str, bytes: &[u8]) -> io::Result<()> {
     }
 }
 
-/// Writes a file, all or nothing: it writes a new file beside it and then renames that. An existing file's permissions
-/// are kept.
+/// Writes a file, all or nothing: it writes a new file beside it and then renames that. An existing file's
+/// permissions are kept.
 fn replace_file(rt: &HostRuntime, name: &str, bytes: &[u8]) -> io::Result<()> {
     let (beside, file) = new_beside(rt, name)?;
     let put = put_beside(rt, file, beside.as_str(), name, bytes);

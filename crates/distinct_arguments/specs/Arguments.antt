@@ -1,10 +1,19 @@
 -- What the program does by its arguments.
-use Rattle.std.specs.Prelude.{ℕ, ◌≤◌, ⊤, ◌+◌, ◌==◌, ◌&&◌, ◌||◌, not, nat_lt, Bool, false, List, [], ◌∷◌, length, codes, Option, Some, None, is_some, is_none, Result, Ok, Err, if◌then◌else◌}
+use Rattle.std.specs.Prelude.{ℕ, ◌≤◌, ⊤, ◌+◌, ◌==◌, ◌&&◌, ◌||◌, not, nat_lt, Bool, false, List, [], ◌∷◌, length}
+use Rattle.std.specs.Prelude.{codes, Option, Some, None, is_some, is_none, Result, Ok, Err, if◌then◌else◌}
 use Rattle.std.specs.Option.{option_map_or}
 use Rattle.std.specs.List.{find}
 use Rattle.std.specs.Str.{bytes_eq}
-use Rattle.distinct_arguments.specs.Words.{command_of, option_called, has_option, reads_lines, reads_expression, is_help, is_version, is_dir, is_option, is_standard, Setting, split_option}
-use Rattle.distinct_arguments.specs.Settings.{SeedValue, seed_number, seed_file, OptionValues, default_options, Mistake, no_command, unknown_command, unknown_option, behind_file, no_value, unneeded_value, not_one_expression, lone_field, lone_sum, lone_separator, two_amounts, plain_sums, lone_digits, summed_keys, summed_field, summed_groups, summed_bounds, lone_groups, lone_order, lone_unions, counted_groups, lone_folder, two_outputs, files_and_list, standard_twice, with_flag, with_value}
+use Rattle.distinct_arguments.specs.Words.{command_of, option_called, has_option, reads_lines, reads_expression}
+use Rattle.distinct_arguments.specs.Words.{is_help, is_version, is_dir, is_option, is_standard, Setting}
+use Rattle.distinct_arguments.specs.Words.{split_option}
+use Rattle.distinct_arguments.specs.Settings.{SeedValue, seed_number, seed_file, OptionValues, default_options}
+use Rattle.distinct_arguments.specs.Settings.{Mistake, no_command, unknown_command, unknown_option, behind_file}
+use Rattle.distinct_arguments.specs.Settings.{no_value, unneeded_value, not_one_expression, lone_field, lone_sum}
+use Rattle.distinct_arguments.specs.Settings.{lone_separator, two_amounts, plain_sums, lone_digits, summed_keys}
+use Rattle.distinct_arguments.specs.Settings.{summed_field, summed_groups, summed_bounds, lone_groups, lone_order}
+use Rattle.distinct_arguments.specs.Settings.{lone_unions, counted_groups, lone_folder, two_outputs, files_and_list}
+use Rattle.distinct_arguments.specs.Settings.{standard_twice, with_flag, with_value}
 use Rattle.distinct_arguments.specs.declared.commands.Command.{Command}
 use Rattle.distinct_arguments.specs.declared.commands.Topic.{Topic}
 use Rattle.distinct_arguments.specs.declared.commands.Topic.TheVariants.{Program, Version, Help}
@@ -47,7 +56,8 @@ flag_meaning awaiting (Some options) = sets options
 abbrev pub option_meaning : Command → OptionValues → Setting → OptionName → Meaning
 option_meaning command options setting option =
     if not (has_option command option) then wrong (unknown_option setting.name) else
-    option_map_or (λ value. value_meaning (with_value options option setting.name value)) setting.value (flag_meaning (record { option = option; name = setting.name }) (with_flag options option))
+    option_map_or (λ value. value_meaning (with_value options option setting.name value)) setting.value
+    (flag_meaning (record { option = option; name = setting.name }) (with_flag options option))
 
 -- what a word means
 abbrev pub setting_meaning : Command → OptionValues → Setting → Meaning
@@ -188,7 +198,9 @@ command_action command options None [] = run_action command options []
 command_action command options None (word ∷ words) =
     if bytes_eq word (codes "--") then run_action command options words else
     if not (is_option word) then files_action command options (word ∷ words) else
-    at_meaning command (setting_meaning command options (split_option word)) (λ next. command_action command next None words) (λ awaiting. command_action command options (Some awaiting) words)
+    at_meaning command (setting_meaning command options (split_option word))
+    (λ next. command_action command next None words)
+    (λ awaiting. command_action command options (Some awaiting) words)
 command_action command options (Some awaiting) [] = fails (no_value awaiting.name)
 command_action command options (Some awaiting) (value ∷ words) =
     at_value (with_value options awaiting.option awaiting.name value) (λ next. command_action command next None words)

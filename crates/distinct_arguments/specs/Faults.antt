@@ -1,11 +1,23 @@
 -- How the program reads its arguments.
-use Rattle.std.specs.Prelude.{ℕ, ◌≡◌, ◌<◌, ◌⊎◌, IsTrue, Bool, true, false, List, [], ◌∷◌, length, Option, Some, None, Result, Ok, Err, string_bytes}
+use Rattle.std.specs.Prelude.{ℕ, ◌≡◌, ◌<◌, ◌⊎◌, IsTrue, Bool, true, false, List, [], ◌∷◌, length, Option, Some}
+use Rattle.std.specs.Prelude.{None, Result, Ok, Err, string_bytes}
 use Rattle.std.specs.Option.{option_map}
-use Rattle.distinct_arguments.specs.Arguments.{Action, prints, runs, fails, Meaning, help, sets, awaits, wrong, files_action, run_action, command_action, first_action, dirs_of, action_of}
-use Rattle.distinct_arguments.specs.Settings.{SeedValue, seed_number, seed_file, OptionValues, Mistake, no_command, unknown_command, unknown_option, behind_file, no_value, unneeded_value, wrong_size, wrong_field, wrong_group, wrong_value, wrong_order, wrong_separator, wrong_seed, wrong_deviations, wrong_count, not_one_expression, lone_field, lone_sum, lone_separator, two_amounts, plain_sums, lone_digits, summed_keys, summed_field, summed_groups, summed_bounds, lone_groups, lone_order, lone_unions, counted_groups, lone_folder, two_outputs, files_and_list, standard_twice}
+use Rattle.distinct_arguments.specs.Arguments.{Action, prints, runs, fails, Meaning, help, sets, awaits, wrong}
+use Rattle.distinct_arguments.specs.Arguments.{files_action, run_action, command_action, first_action, dirs_of}
+use Rattle.distinct_arguments.specs.Arguments.{action_of}
+use Rattle.distinct_arguments.specs.Settings.{SeedValue, seed_number, seed_file, OptionValues, Mistake, no_command}
+use Rattle.distinct_arguments.specs.Settings.{unknown_command, unknown_option, behind_file, no_value}
+use Rattle.distinct_arguments.specs.Settings.{unneeded_value, wrong_size, wrong_field, wrong_group, wrong_value}
+use Rattle.distinct_arguments.specs.Settings.{wrong_order, wrong_separator, wrong_seed, wrong_deviations}
+use Rattle.distinct_arguments.specs.Settings.{wrong_count, not_one_expression, lone_field, lone_sum, lone_separator}
+use Rattle.distinct_arguments.specs.Settings.{two_amounts, plain_sums, lone_digits, summed_keys, summed_field}
+use Rattle.distinct_arguments.specs.Settings.{summed_groups, summed_bounds, lone_groups, lone_order, lone_unions}
+use Rattle.distinct_arguments.specs.Settings.{counted_groups, lone_folder, two_outputs, files_and_list}
+use Rattle.distinct_arguments.specs.Settings.{standard_twice}
 use Rattle.distinct_arguments.specs.Words.{words_of}
 use Rattle.distinct_arguments.specs.declared.arguments.Meaning.{Meaning as MeaningOf}
-use Rattle.distinct_arguments.specs.declared.arguments.Meaning.TheVariants.{Help as MeansHelp, Sets, Awaits, Wrong as MeansWrong}
+use Rattle.distinct_arguments.specs.declared.arguments.Meaning.TheVariants.{Help as MeansHelp, Sets, Awaits}
+use Rattle.distinct_arguments.specs.declared.arguments.Meaning.TheVariants.{Wrong as MeansWrong}
 use Rattle.distinct_arguments.specs.declared.arguments.Front.{Front}
 use Rattle.distinct_arguments.specs.declared.arguments.Front.TheVariants.{Dir, Other, Wrong as WrongFront}
 use Rattle.distinct_arguments.specs.declared.arguments.Step.{Step}
@@ -15,7 +27,18 @@ use Rattle.distinct_arguments.specs.declared.commands.Request.{Request}
 use Rattle.distinct_arguments.specs.declared.commands.Request.TheVariants.{Print, Run}
 use Rattle.distinct_arguments.specs.declared.commands.Topic.TheVariants.{Help as HelpOn}
 use Rattle.distinct_arguments.specs.declared.fault.Fault.{Fault}
-use Rattle.distinct_arguments.specs.declared.fault.Fault.TheVariants.{NoCommand, UnknownCommand, UnknownOption, BehindFile, NoValue, UnneededValue, WrongSize, WrongField, WrongGroup, WrongValue, WrongOrder, WrongSeparator, WrongSeed, ZeroSeed, WrongDeviations, WrongCount, NotOneExpression, LoneField, LoneSum, LoneSeparator, TwoAmounts, PlainSums, LoneDigits, SummedKeys, SummedField, SummedGroups, SummedBounds, LoneGroups, LoneOrder, LoneUnions, CountedGroups, LoneFolder, TwoOutputs, FilesAndList, StandardTwice, Memory}
+use Rattle.distinct_arguments.specs.declared.fault.Fault.TheVariants.{NoCommand, UnknownCommand, UnknownOption}
+use Rattle.distinct_arguments.specs.declared.fault.Fault.TheVariants.{BehindFile, NoValue, UnneededValue, WrongSize}
+use Rattle.distinct_arguments.specs.declared.fault.Fault.TheVariants.{WrongField, WrongGroup, WrongValue}
+use Rattle.distinct_arguments.specs.declared.fault.Fault.TheVariants.{WrongOrder, WrongSeparator, WrongSeed}
+use Rattle.distinct_arguments.specs.declared.fault.Fault.TheVariants.{ZeroSeed, WrongDeviations, WrongCount}
+use Rattle.distinct_arguments.specs.declared.fault.Fault.TheVariants.{NotOneExpression, LoneField, LoneSum}
+use Rattle.distinct_arguments.specs.declared.fault.Fault.TheVariants.{LoneSeparator, TwoAmounts, PlainSums}
+use Rattle.distinct_arguments.specs.declared.fault.Fault.TheVariants.{LoneDigits, SummedKeys, SummedField}
+use Rattle.distinct_arguments.specs.declared.fault.Fault.TheVariants.{SummedGroups, SummedBounds, LoneGroups}
+use Rattle.distinct_arguments.specs.declared.fault.Fault.TheVariants.{LoneOrder, LoneUnions, CountedGroups}
+use Rattle.distinct_arguments.specs.declared.fault.Fault.TheVariants.{LoneFolder, TwoOutputs, FilesAndList}
+use Rattle.distinct_arguments.specs.declared.fault.Fault.TheVariants.{StandardTwice, Memory}
 use Rattle.distinct_arguments.specs.declared.fault.WrongWord.{WrongWord}
 use Rattle.distinct_arguments.specs.declared.fault.WrongWord.TheVariants as wrong_word
 use Rattle.distinct_arguments.specs.declared.options.Options.{Options}

@@ -11,7 +11,11 @@ use Rattle.distinct_arguments.specs.declared.options.Form.{Form}
 use Rattle.distinct_arguments.specs.declared.options.Order.{Order}
 use Rattle.distinct_arguments.specs.declared.options.Form.TheVariants.{Plain, Tsv as TsvForm, Json as JsonForm}
 use Rattle.distinct_arguments.specs.declared.options.OptionName.{OptionName}
-use Rattle.distinct_arguments.specs.declared.options.OptionName.TheVariants.{LgK, Field, Separator, By, Value, Visits, Sort, Groups, Sums, Seed, SeedFile, FileList, Expect, Progress, Bounds, Tsv, Json, Hex, Output, OutputDir, Keys, Dir}
+use Rattle.distinct_arguments.specs.declared.options.OptionName.TheVariants.{LgK, Field, Separator, By, Value}
+use Rattle.distinct_arguments.specs.declared.options.OptionName.TheVariants.{Visits, Sort, Groups, Sums, Seed}
+use Rattle.distinct_arguments.specs.declared.options.OptionName.TheVariants.{SeedFile, FileList, Expect, Progress}
+use Rattle.distinct_arguments.specs.declared.options.OptionName.TheVariants.{Bounds, Tsv, Json, Hex, Output}
+use Rattle.distinct_arguments.specs.declared.options.OptionName.TheVariants.{OutputDir, Keys, Dir}
 
 -- the seed of hashes: a number, or the name of the file that has it
 pub data SeedValue : Type 0 where

@@ -2,9 +2,11 @@
 use Rattle.std.specs.Prelude.{ℕ, List}
 use Rattle.distinct_arguments.specs.declared.commands.Topic.{Topic}
 use Rattle.distinct_arguments.specs.declared.commands.Topic.TheVariants.{Program, Version, Help}
-use Rattle.distinct_arguments.specs.declared.commands.Command.TheVariants.{Count, Sketch, Combine, Show, Eval, Visits, Sum}
+use Rattle.distinct_arguments.specs.declared.commands.Command.TheVariants.{Count, Sketch, Combine, Show, Eval}
+use Rattle.distinct_arguments.specs.declared.commands.Command.TheVariants.{Visits, Sum}
 use Rattle.distinct_arguments.specs.declared.commands.Operator.TheVariants.{Union, Meet, Minus}
-use Rattle.distinct_arguments.specs.declared.help.TheConstants.{VERSION, HELP, COUNT, SKETCH, UNION, MEET, MINUS, SHOW, EVAL, VISITS, SUM}
+use Rattle.distinct_arguments.specs.declared.help.TheConstants.{VERSION, HELP, COUNT, SKETCH, UNION, MEET, MINUS}
+use Rattle.distinct_arguments.specs.declared.help.TheConstants.{SHOW, EVAL, VISITS, SUM}
 
 -- the bytes of the text on a topic: exactly those of its constant
 abbrev pub text_of : Topic → List ℕ

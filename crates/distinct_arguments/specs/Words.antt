@@ -1,5 +1,6 @@
 -- Single words of the program's arguments.
-use Rattle.std.specs.Prelude.{ℕ, ◌==◌, ◌&&◌, ◌||◌, not, nat_le, Bool, true, false, List, [], ◌∷◌, length, map, codes, Option, Some, None, String, string_bytes, if◌then◌else◌}
+use Rattle.std.specs.Prelude.{ℕ, ◌==◌, ◌&&◌, ◌||◌, not, nat_le, Bool, true, false, List, [], ◌∷◌, length, map}
+use Rattle.std.specs.Prelude.{codes, Option, Some, None, String, string_bytes, if◌then◌else◌}
 use Rattle.std.specs.Option.{option_map_or}
 use Rattle.std.specs.List.{before_first, after_first, position_or_len}
 use Rattle.std.specs.Str.{bytes_eq, all_ascii_digits}
@@ -8,12 +9,18 @@ use Rattle.sketch_base.specs.Seed.{seed_hash}
 use Rattle.estimates.specs.declared.bounds.Deviations.{Deviations}
 use Rattle.estimates.specs.declared.bounds.Deviations.TheVariants.{One, Two, Three}
 use Rattle.distinct_arguments.specs.declared.commands.Command.{Command}
-use Rattle.distinct_arguments.specs.declared.commands.Command.TheVariants.{Count, Sketch, Combine, Show, Eval, Visits, Sum}
+use Rattle.distinct_arguments.specs.declared.commands.Command.TheVariants.{Count, Sketch, Combine, Show, Eval}
+use Rattle.distinct_arguments.specs.declared.commands.Command.TheVariants.{Visits, Sum}
 use Rattle.distinct_arguments.specs.declared.commands.Operator.TheVariants.{Union, Meet, Minus}
 use Rattle.distinct_arguments.specs.declared.options.OptionName.{OptionName}
 use Rattle.distinct_arguments.specs.declared.options.Order.{Order}
 use Rattle.distinct_arguments.specs.declared.options.Order.TheVariants.{Name, Estimate}
-use Rattle.distinct_arguments.specs.declared.options.OptionName.TheVariants.{LgK, Field, Separator, By, Sort, Groups, Sums, Value, Visits as VisitsOption, Seed, SeedFile, FileList, Expect, Progress, Bounds, Tsv, Json, Hex, Output, OutputDir, Keys, Dir}
+use Rattle.distinct_arguments.specs.declared.options.OptionName.TheVariants.{LgK, Field, Separator, By, Sort}
+use Rattle.distinct_arguments.specs.declared.options.OptionName.TheVariants.{Groups, Sums, Value}
+use Rattle.distinct_arguments.specs.declared.options.OptionName.TheVariants.{Visits as VisitsOption, Seed, SeedFile}
+use Rattle.distinct_arguments.specs.declared.options.OptionName.TheVariants.{FileList, Expect, Progress, Bounds}
+use Rattle.distinct_arguments.specs.declared.options.OptionName.TheVariants.{Tsv, Json, Hex, Output, OutputDir}
+use Rattle.distinct_arguments.specs.declared.options.OptionName.TheVariants.{Keys, Dir}
 
 -- the bytes of words
 abbrev pub words_of : {A : Type 0} → List (String A) → List (List ℕ)

@@ -2,7 +2,8 @@
 ghost use Rattle.std.specs.Prelude.{◌≡◌, ◌+◌, ◌∷◌, true, false, Some, None, codes, length, string_bytes};
 ghost use Rattle.std.specs.Option.{option_map};
 ghost use Rattle.std.specs.Str.{bytes_eq};
-ghost use Rattle.distinct_arguments.specs.Arguments.{action_of, first_action, command_action, option_meaning, setting_meaning};
+ghost use Rattle.distinct_arguments.specs.Arguments.{action_of, first_action, command_action, option_meaning};
+ghost use Rattle.distinct_arguments.specs.Arguments.{setting_meaning};
 ghost use Rattle.distinct_arguments.specs.Faults.{options_of, IsFront, IsMeaning, IsStep, ParsesAs};
 ghost use Rattle.distinct_arguments.specs.Words.{Setting, is_option, words_of};
 
@@ -218,10 +219,10 @@ pub fn front_of(words: &[String]) -> Front<'_>
     }
 }
 
-/// What the arguments request, without the program's name. In front of the command each `-C` has a folder (`front_of`). If
-/// they are wrong, it fails with the first fault of a word from the left; if no word has one, with the first that applies of
-/// `NotOneExpression`, `LoneField`, `LoneSum`, `LoneSeparator`, those of sums and of groups, `FilesAndList` and
-/// `StandardTwice`. If memory for the text of a fault is refused, it fails with `Memory`.
+/// What the arguments request, without the program's name. In front of the command each `-C` has a folder
+/// (`front_of`). If they are wrong, it fails with the first fault of a word from the left; if no word has one, with
+/// the first that applies of `NotOneExpression`, `LoneField`, `LoneSum`, `LoneSeparator`, those of sums and of
+/// groups, `FilesAndList` and `StandardTwice`. If memory for the text of a fault is refused, it fails with `Memory`.
 pub fn read_arguments(words: &[String]) -> Result<Request<'_>, Fault>
     ensures { ParsesAs result (action_of (words_of words.now)) }
 {

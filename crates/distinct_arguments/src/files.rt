@@ -3,9 +3,11 @@ ghost use Rattle.std.specs.Prelude.{◌≡◌, ◌≤◌, ◌+◌, nat_lt, strin
 ghost use Rattle.std.specs.Option.{option_map};
 ghost use Rattle.std.specs.List.{find};
 ghost use Rattle.distinct_arguments.specs.Arguments.{standard_files, standard_uses, is_standard_seed, is_standard_list};
-ghost use Rattle.distinct_arguments.specs.Arguments.{is_standard_default, has_one_expression, has_lone_sum, is_separator_lone, has_lone_groups};
+ghost use Rattle.distinct_arguments.specs.Arguments.{is_standard_default, has_one_expression, has_lone_sum};
+ghost use Rattle.distinct_arguments.specs.Arguments.{is_separator_lone, has_lone_groups};
 ghost use Rattle.distinct_arguments.specs.Arguments.{has_two_amounts, has_plain_sums, has_lone_digits};
-ghost use Rattle.distinct_arguments.specs.Arguments.{run_action, added_action, summed_action, grouped_action, listed_action, files_action};
+ghost use Rattle.distinct_arguments.specs.Arguments.{run_action, added_action, summed_action, grouped_action};
+ghost use Rattle.distinct_arguments.specs.Arguments.{listed_action, files_action};
 ghost use Rattle.distinct_arguments.specs.Faults.{options_of, seed_value, ParsesAs};
 ghost use Rattle.distinct_arguments.specs.Words.{is_option, is_standard, reads_lines, reads_expression, words_of};
 

@@ -1,4 +1,5 @@
-//! The arguments of the program `distinct`: what they request, the first fault in them, its message, and the texts of help.
+//! The arguments of the program `distinct`: what they request, the first fault in them, its message, and the texts of
+//! help.
 //!
 //! Arguments are folders by `-C`, a command, its options, and then files. Nothing here opens a file or prints.
 #![tactic(auto)]

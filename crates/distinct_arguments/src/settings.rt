@@ -1,7 +1,8 @@
 //! What options do to the values of options.
 ghost use Rattle.std.specs.Prelude.{◌≡◌};
 ghost use Rattle.std.specs.Option.{option_map};
-ghost use Rattle.distinct_arguments.specs.Settings.{default_options, chosen_key, chosen_group, chosen_value, with_flag, with_value};
+ghost use Rattle.distinct_arguments.specs.Settings.{default_options, chosen_key, chosen_group, chosen_value};
+ghost use Rattle.distinct_arguments.specs.Settings.{with_flag, with_value};
 ghost use Rattle.distinct_arguments.specs.Faults.{options_of, SetsOptions};
 ghost use Rattle.distinct_arguments.specs.Words.{number_of};
 
@@ -117,8 +118,8 @@ fn lg_k_of(word: &str) -> Option<u8>
     }
 }
 
-/// The options after an option and its value, which replaces an earlier value of that option. `name` is the option's name,
-/// for the fault of an option that takes no value.
+/// The options after an option and its value, which replaces an earlier value of that option. `name` is the option's
+/// name, for the fault of an option that takes no value.
 pub(crate) fn with_value<'a>(
     alloc: Global,
     options: Options<'a>,

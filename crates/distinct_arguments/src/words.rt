@@ -1,7 +1,8 @@
 //! Single words of the arguments.
 ghost use Rattle.std.specs.Prelude.{◌≡◌, ◌==◌, slice_index};
 ghost use Rattle.std.specs.Option.{option_map};
-ghost use Rattle.distinct_arguments.specs.Words.{command_of, option_called, has_option, is_help, is_version, is_dir, is_option};
+ghost use Rattle.distinct_arguments.specs.Words.{command_of, option_called, has_option, is_help, is_version};
+ghost use Rattle.distinct_arguments.specs.Words.{is_dir, is_option};
 ghost use Rattle.distinct_arguments.specs.Words.{split_option, number_of, byte_of, seed_of, deviations_of, order_of};
 
 use crate::commands::{Command, Operator};

@@ -25,7 +25,8 @@ use Rattle.distinct_commands.specs.Texts.{count_text, shown_text, head_of}
 use Rattle.distinct_commands.specs.Sums.{IsSumsText, IsTotalText}
 use Rattle.distinct_commands.specs.Visits.{IsVisitsText}
 use Rattle.distinct_arguments.specs.declared.commands.Command.{Command}
-use Rattle.distinct_arguments.specs.declared.commands.Command.TheVariants.{Count, Sketch, Combine, Show, Eval, Visits, Sum}
+use Rattle.distinct_arguments.specs.declared.commands.Command.TheVariants.{Count, Sketch, Combine, Show, Eval}
+use Rattle.distinct_arguments.specs.declared.commands.Command.TheVariants.{Visits, Sum}
 use Rattle.distinct_arguments.specs.declared.commands.Operator.{Operator}
 use Rattle.distinct_arguments.specs.declared.commands.Operator.TheVariants.{Union, Meet, Minus}
 

@@ -1,5 +1,6 @@
 -- What `eval` prints or writes.
-use Rattle.std.specs.Prelude.{ℕ, ◌≡◌, ◌++◌, ⊤, Bool, true, false, List, [], ◌∷◌, length, map, Option, Some, None, is_some, if◌then◌else◌}
+use Rattle.std.specs.Prelude.{ℕ, ◌≡◌, ◌++◌, ⊤, Bool, true, false, List, [], ◌∷◌, length, map, Option, Some, None}
+use Rattle.std.specs.Prelude.{is_some, if◌then◌else◌}
 use Rattle.sketch_base.specs.Seed.{seed_hash}
 use Rattle.core_compact.specs.CompactState.{Compact, ordered_sketch}
 use Rattle.core_laws.specs.Entries.{hash_key}
@@ -53,7 +54,9 @@ AreWholeSets false options seed texts sketches sets = AreSamples hash_key (value
 
 -- what is printed of a sketch, as the result of an expression, or its image if it goes to a file
 abbrev pub evaluated_text : OptionValues → (expression : List ℕ) → Compact ℕ → List ℕ
-evaluated_text options expression s = if is_some options.output then in_form options.hex (written s) else head_of options.form ++ shown_text options expression s
+evaluated_text options expression s =
+    if is_some options.output then in_form options.hex (written s)
+    else head_of options.form ++ shown_text options expression s
 
 -- The result of an expression over the sketches of texts, one for each of its names, in the order in which it first has
 -- them. It retains exactly the hashes of the expression of the whole streams that are below its theta.

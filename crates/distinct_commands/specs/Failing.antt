@@ -12,15 +12,18 @@ use Rattle.expression_evaluation.specs.Running.{sums_values, MayRefuse}
 use Rattle.distinct_arguments.specs.Arguments.{Action, prints, runs, fails}
 use Rattle.distinct_arguments.specs.Settings.{OptionValues}
 use Rattle.distinct_arguments.specs.declared.commands.Command.{Command}
-use Rattle.distinct_arguments.specs.declared.commands.Command.TheVariants.{Count, Sketch, Combine, Show, Eval, Visits, Sum}
+use Rattle.distinct_arguments.specs.declared.commands.Command.TheVariants.{Count, Sketch, Combine, Show, Eval}
+use Rattle.distinct_arguments.specs.declared.commands.Command.TheVariants.{Visits, Sum}
 use Rattle.distinct_arguments.specs.declared.fault.Fault.TheVariants.{NotOneExpression}
-use Rattle.distinct_inputs.specs.Failures.{images_in, unites_groups, IsOfReading, IsOfImages, IsOfSketch, IsOfOperator, IsOfVisits, IsOfTotal, IsOfWriting}
+use Rattle.distinct_inputs.specs.Failures.{images_in, unites_groups, IsOfReading, IsOfImages, IsOfSketch}
+use Rattle.distinct_inputs.specs.Failures.{IsOfOperator, IsOfVisits, IsOfTotal, IsOfWriting}
 use Rattle.distinct_inputs.specs.Images.{images_of}
 use Rattle.distinct_inputs.specs.Lists.{IsFirstUnnamed}
 use Rattle.distinct_inputs.specs.declared.failure.Failure.{Failure}
 use Rattle.distinct_inputs.specs.declared.lists.Unlisted.{Unlisted}
 use Rattle.distinct_inputs.specs.declared.lists.Unlisted.TheVariants.{Name, Memory as NoMemory}
-use Rattle.distinct_inputs.specs.declared.failure.Failure.TheVariants.{Arguments, NoFiles, NoExpression, NoName, NotOneEach, PastResult, Memory}
+use Rattle.distinct_inputs.specs.declared.failure.Failure.TheVariants.{Arguments, NoFiles, NoExpression, NoName}
+use Rattle.distinct_inputs.specs.declared.failure.Failure.TheVariants.{NotOneEach, PastResult, Memory}
 use Rattle.distinct_commands.specs.declared.expression.Operands.{Operands}
 use Rattle.distinct_commands.specs.declared.expression.Operands.TheVariants as operands
 
@@ -109,7 +112,8 @@ IsOfOperands command options seed (operands.Expression e) texts failure = IsOfEv
 
 -- a command fails, or its answer can't be written to standard output
 abbrev pub IsOfAnswer : Command → OptionValues → (seed : ℕ) → Operands → (texts : Option (List (List ℕ))) → Failure → Type 0
-IsOfAnswer command options seed given texts failure = IsOfOperands command options seed given texts failure ⊎ IsOfWriting (codes "standard output") failure
+IsOfAnswer command options seed given texts failure =
+    IsOfOperands command options seed given texts failure ⊎ IsOfWriting (codes "standard output") failure
 
 -- a request fails as its command does, or its text can't be written to standard output
 abbrev pub IsOfRequest : Action → (seed : ℕ) → Operands → (texts : Option (List (List ℕ))) → Failure → Type 0

@@ -1,5 +1,6 @@
 //! What `union`, `meet` and `minus` write.
-ghost use Rattle.std.specs.Prelude.{◌≡◌, ◌≢◌, ◌≤◌, ◌⊎◌, ℕ, List, [], ◌∷◌, length, Option, None, IfOk, IfErr, IfSome, IfNone, OnOk, true, false, Bool};
+ghost use Rattle.std.specs.Prelude.{◌≡◌, ◌≢◌, ◌≤◌, ◌⊎◌, ℕ, List, [], ◌∷◌, length, Option, None, IfOk, IfErr};
+ghost use Rattle.std.specs.Prelude.{IfSome, IfNone, OnOk, true, false, Bool};
 ghost use Rattle.sketch_base.specs.Seed.{seed_hash};
 ghost use Rattle.sketch_base.specs.declared.error.ErrorKind.TheVariants.{OutOfMemory, InvalidData, Policy};
 ghost use Rattle.theta_sketches.specs.Image.{written};
@@ -9,7 +10,8 @@ ghost use Rattle.distinct_arguments.specs.Settings.{OptionValues};
 ghost use Rattle.distinct_arguments.specs.declared.commands.Operator.{Operator};
 ghost use Rattle.distinct_commands.specs.Answers.{intersection_of, difference_of, IsCombinedOf, IsExpected, IsUnionOf};
 ghost use Rattle.distinct_inputs.specs.Images.{remaining_images, HasNoSketch, ReadsNext};
-ghost use Rattle.distinct_inputs.specs.Failures.{images_in, unites_sums, AreCounted, IsOfImages, IsOfCombining, IsOfEitherUnion, IsOfUniting};
+ghost use Rattle.distinct_inputs.specs.Failures.{images_in, unites_sums, AreCounted, IsOfImages, IsOfCombining};
+ghost use Rattle.distinct_inputs.specs.Failures.{IsOfEitherUnion, IsOfUniting};
 ghost use Rattle.distinct_inputs.specs.Failures.{ReportsNoSketch, ReportsPastUnion, UnreadableIf};
 ghost use Rattle.distinct_arguments.specs.declared.commands.Operator.TheVariants.{Union};
 ghost use Rattle.distinct_inputs.specs.Seeds.{AreSeeded};
@@ -76,7 +78,8 @@ fn check_count(expected: Option<u64>, found: u64) -> Result<(), Failure>
         → options.expected ≡ expected
         → AreCounted found images
         → IfErr result (IsOfEitherUnion options seed images) }
-    ensures of_operator { (operator : Operator) (options : OptionValues) (seed count : ℕ) (texts : Option (List (List ℕ)))
+    ensures of_operator { (operator : Operator) (options : OptionValues) (seed count : ℕ)
+        (texts : Option (List (List ℕ)))
         → options.expected ≡ expected
         → AreCounted found (images_in (unites_sums operator options) options texts)
         → IfErr result (IsOfCombining operator options seed count texts) }
@@ -112,8 +115,10 @@ fn united<S: Sources>(
     requires seeded { seed_hash seed ≢ 0 }
     ensures united { IfSome (remaining_images S.Source.remaining S.texts images.old) (λ all.
         IfOk result (λ u. IsUnionOf options.now.sums seed options.now.lg_k all u.image.items)) }
-    ensures counted { IfSome (remaining_images S.Source.remaining S.texts images.old) (λ all. IfOk result (λ u. u.count ≡ length all)) }
-    ensures refused { IfErr result (IsOfUniting options.now.sums seed (remaining_images S.Source.remaining S.texts images.old)) }
+    ensures counted { IfSome (remaining_images S.Source.remaining S.texts images.old) (λ all.
+        IfOk result (λ u. u.count ≡ length all)) }
+    ensures refused { IfErr result
+        (IsOfUniting options.now.sums seed (remaining_images S.Source.remaining S.texts images.old)) }
 {
     if options.sums {
         unite_sums(alloc, seed, options.lg_k, images)
@@ -129,8 +134,8 @@ pub fn remark_coarser<S: Sources, C: Console>(images: &Images<'_, S>, lg_k: u8, 
     }
 }
 
-/// The failure for an image that was not added to a union. That the sum of a key is 2^64 or more is a failure of images
-/// of sums alone.
+/// The failure for an image that was not added to a union. That the sum of a key is 2^64 or more is a failure of
+/// images of sums alone.
 pub fn not_added<S: Sources>(images: &Images<'_, S>, options: &Options<'_>, error: Error) -> Failure
     requires { (error ≡ OutOfMemory) ⊎ ((error ≡ Policy) ⊎ (error ≡ InvalidData)) }
     ensures policy { error ≡ Policy → ReportsPastUnion images.now result }

@@ -5,7 +5,8 @@ ghost use Rattle.sketch_base.specs.Seed.{seed_hash};
 ghost use Rattle.theta_sketches.specs.Image.{written};
 ghost use Rattle.distinct_arguments.specs.Faults.{options_of, request_action};
 ghost use Rattle.distinct_arguments.specs.Settings.{chosen_group};
-ghost use Rattle.distinct_commands.specs.Answers.{sketch_of, lines_text, IsLinesText, IsSketchText, IsCommandAnswer, WritesAnswer, Performs};
+ghost use Rattle.distinct_commands.specs.Answers.{sketch_of, lines_text, IsLinesText, IsSketchText};
+ghost use Rattle.distinct_commands.specs.Answers.{IsCommandAnswer, WritesAnswer, Performs};
 ghost use Rattle.distinct_inputs.specs.Lists.{names_of};
 ghost use Rattle.distinct_inputs.specs.Images.{in_form};
 ghost use Rattle.distinct_commands.specs.Failing.{IsOfCommand, IsOfOperands, IsOfAnswer, IsOfRequest};
@@ -30,15 +31,15 @@ use theta_sketches::CompactThetaSketch;
 /// The name of standard output in messages.
 const STANDARD_OUTPUT: &str = "standard output";
 
-/// Runs a command under a seed on what it is given, of which `sources` opens the files, and writes its whole answer and
-/// nothing else. Only if the writer fails may a part of the answer have been written.
+/// Runs a command under a seed on what it is given, of which `sources` opens the files, and writes its whole answer
+/// and nothing else. Only if the writer fails may a part of the answer have been written.
 ///
-/// Any command may fail with `Memory`, with `Unreadable` if its sources may fail, and with `NotWritten` for standard output.
-/// Each other failure has its commands:
+/// Any command may fail with `Memory`, with `Unreadable` if its sources may fail, and with `NotWritten` for standard
+/// output. Each other failure has its commands:
 ///
-/// - `NoSketch`, `NoSums`, `NoHex` and `NoLine`: commands that read images; `NoSums` if these are of sums, `NoSketch` if
-///   not, `NoHex` and `NoLine` with `--hex`. If contracts know the files' bytes, only if some image is none of the seed:
-///   a line that isn't hexadecimal, a file without a line, and an image that something follows count as none;
+/// - `NoSketch`, `NoSums`, `NoHex` and `NoLine`: commands that read images; `NoSums` if these are of sums, `NoSketch`
+///   if not, `NoHex` and `NoLine` with `--hex`. If contracts know the files' bytes, only if some image is none of the
+///   seed: a line that isn't hexadecimal, a file without a line, and an image that something follows count as none;
 /// - `NoTab`, `NoHex` and `NoSketch` with `--groups`: for the first line of a file that has a flaw;
 /// - `NoFiles`: commands that read images, if no file is named;
 /// - `WrongCount`: commands that combine images, if `--expect` names another number than the failure reports to have
@@ -46,8 +47,8 @@ const STANDARD_OUTPUT: &str = "standard output";
 /// - `NotTwo`: `minus`. If contracts know the files' bytes, only if the named files aren't two (without `--hex`) or
 ///   their images aren't two;
 /// - `NotOneEach`: `eval`;
-/// - `PastResult`: `eval --sums`. If contracts know the files' bytes, only if in some step of the expression two operands
-///   of a union or an intersection have a key whose sums are 2^64 or more together;
+/// - `PastResult`: `eval --sums`. If contracts know the files' bytes, only if in some step of the expression two
+///   operands of a union or an intersection have a key whose sums are 2^64 or more together;
 /// - `PastUnion`: commands on images of sums, if the sum of a key is 2^64 or more, which no clause says;
 /// - `LoneSum`: `sum`, if its options have no field of numbers;
 /// - `NotANumber` and `PastGreatest`: commands that sum lines, if a line has no number, or if a sum is 2^64 or more.
@@ -73,9 +74,9 @@ pub fn answer<S: Sources + Drop, C: Console, O: Write>(
     put(alloc, writer, STANDARD_OUTPUT, bytes.as_slice())
 }
 
-/// Does what a request says: prints its text, or runs its command under this seed on what it is given, of which `sources`
-/// opens the files. It fails as `answer` does, or if the writer does. Unless the writer fails, a request that fails
-/// has written nothing.
+/// Does what a request says: prints its text, or runs its command under this seed on what it is given, of which
+/// `sources` opens the files. It fails as `answer` does, or if the writer does. Unless the writer fails, a request
+/// that fails has written nothing.
 pub fn perform<S: Sources + Drop, C: Console, O: Write>(
     alloc: Global,
     request: Request<'_>,
@@ -117,7 +118,8 @@ fn answer_of<S: Sources + Drop, C: Console>(
     requires suits { Suits command operands }
     ensures answer { IfSome (S.texts sources) (λ texts.
         IfOk result (λ v. IsCommandAnswer command (options_of options.now) seed (words_in operands.entry) texts v.items)) }
-    ensures failed { IfErr result (IsOfOperands command (options_of options.now) seed operands.entry (S.texts sources)) }
+    ensures failed { IfErr result
+        (IsOfOperands command (options_of options.now) seed operands.entry (S.texts sources)) }
     ensures fallible { IfErr result (UnreadableIf S.may_fail) }
 {
     match operands {
@@ -241,9 +243,11 @@ impl<'a, S: Sources + Drop> Job<'a, S> {
         requires seeded { seed_hash self.seed ≢ 0 }
         ensures sketched { IfSome (S.texts self.entry.inputs.sources) (λ texts.
             IfOk result (λ v.
-            IsSketchText (chosen_amount (options_of self.entry.options.now)) (chosen_group (options_of self.entry.options.now))
+            IsSketchText (chosen_amount (options_of self.entry.options.now))
+            (chosen_group (options_of self.entry.options.now))
             (options_of self.entry.options.now) self.entry.seed texts v.items)) }
-        ensures failed { IfErr result (IsOfSketch (options_of self.entry.options.now) self.entry.seed (S.texts self.entry.inputs.sources)) }
+        ensures failed { IfErr result
+            (IsOfSketch (options_of self.entry.options.now) self.entry.seed (S.texts self.entry.inputs.sources)) }
         ensures fallible { IfErr result (UnreadableIf S.may_fail) }
     {
         match chosen_amount(self.options) {

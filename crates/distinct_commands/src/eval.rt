@@ -10,7 +10,8 @@ ghost use Rattle.core_compact.specs.CompactState.{ordered_sketch};
 ghost use Rattle.expression_evaluation.specs.Running.{values_of};
 ghost use Rattle.distinct_arguments.specs.Faults.{options_of};
 ghost use Rattle.distinct_inputs.specs.Lists.{names_of};
-ghost use Rattle.distinct_commands.specs.Eval.{sketch_of_text, SketchesNext, AreSketchesOfTexts, AreOperands, IsEvaluated, IsEvaluatedBy, evaluated_text};
+ghost use Rattle.distinct_commands.specs.Eval.{sketch_of_text, SketchesNext, AreSketchesOfTexts, AreOperands};
+ghost use Rattle.distinct_commands.specs.Eval.{IsEvaluated, IsEvaluatedBy, evaluated_text};
 ghost use Rattle.distinct_commands.specs.Failing.{IsOfNames, IsOfThetas, IsOfEvaluation};
 ghost use Rattle.distinct_commands.specs.Operands.{IsRead};
 ghost use Rattle.distinct_inputs.specs.Seeds.{AreSeeded};
@@ -30,7 +31,8 @@ use keys_sketches::{BLOCK, Sources, TextReader, Unread, sketch_lines};
 use std::alloc::Global;
 use theta_sketches::CompactThetaSketch;
 
-/// The sketch of the lines of a source. Refused only with `OutOfMemory`; if the source can't be read, its error is returned.
+/// The sketch of the lines of a source. Refused only with `OutOfMemory`; if the source can't be read, its error is
+/// returned.
 fn sketch_source<R: TextReader, C: Console>(
     alloc: Global,
     options: &Options<'_>,
@@ -52,8 +54,8 @@ fn sketch_source<R: TextReader, C: Console>(
     sketch_lines(alloc, hashing, lg_k, source, &mut block, console)
 }
 
-/// The sketch of the lines of the next source, of this seed, or `None` at the end. It fails if memory is refused or the
-/// source can't be read.
+/// The sketch of the lines of the next source, of this seed, or `None` at the end. It fails if memory is refused or
+/// the source can't be read.
 fn next_lines<S: Sources, C: Console>(
     alloc: Global,
     options: &Options<'_>,
@@ -63,7 +65,8 @@ fn next_lines<S: Sources, C: Console>(
 ) -> Result<Option<CompactThetaSketch>, Failure>
     requires seeded { seed_hash seed ≢ 0 }
     ensures seeded { IfOk result (λ next. IfSome next (λ s. s.seed_hash ≡ seed_hash seed)) }
-    ensures sketches { IfOk result (SketchesNext (options_of options.now) seed (S.texts inputs.old.sources) (S.texts inputs.new.sources)) }
+    ensures sketches { IfOk result
+        (SketchesNext (options_of options.now) seed (S.texts inputs.old.sources) (S.texts inputs.new.sources)) }
     ensures failed { IfErr result IsOfReading }
     ensures fallible { IfErr result (UnreadableIf S.may_fail) }
 {
@@ -91,8 +94,12 @@ fn result_of(
     requires seeded { AreSeeded seed sketches.now }
     requires read { IsRead expression.now }
     requires counted { length expression.now.names.items ≡ length sketches.now }
-    ensures value { (spelled : IsExpressionText expression.now.text.now (names_of expression.now.names.items) expression.now.steps.items)
-        → IfOk result (λ s. s ≡ ordered_sketch (hashes_value options.now.lg_k (values_of sketches.now) spelled.tree) (seed_hash seed)) }
+    ensures value { (spelled : IsExpressionText expression.now.text.now (names_of expression.now.names.items)
+        expression.now.steps.items)
+        → IfOk result (λ s.
+        s
+        ≡ ordered_sketch (hashes_value options.now.lg_k (values_of sketches.now) spelled.tree)
+        (seed_hash seed)) }
     ensures memory { IfErr result (λ f. f ≡ failure.Memory) }
 {
     let steps = expression.steps.as_slice();
@@ -123,8 +130,8 @@ fn put_result(
 }
 
 impl<'a, S: Sources + Drop> Job<'a, S> {
-    /// The sketches of the lines of all sources, one for each source, each of this seed. It fails if memory is refused or a
-    /// source can't be read.
+    /// The sketches of the lines of all sources, one for each source, each of this seed. It fails if memory is
+    /// refused or a source can't be read.
     fn all_lines<C: Console>(self, console: &mut C) -> Result<Vec<CompactThetaSketch>, Failure>
         requires seeded { seed_hash self.seed ≢ 0 }
         ensures seeded { IfOk result (λ v. AreSeeded self.entry.seed v.items) }
@@ -145,8 +152,8 @@ impl<'a, S: Sources + Drop> Job<'a, S> {
         Err(Failure::Memory)
     }
 
-    /// The sketches of all sources, each of this seed: those of their lines with `--keys`, else those that they have as
-    /// images.
+    /// The sketches of all sources, each of this seed: those of their lines with `--keys`, else those that they have
+    /// as images.
     fn operands<C: Console>(self, console: &mut C) -> Result<Vec<CompactThetaSketch>, Failure>
         requires seeded { seed_hash self.seed ≢ 0 }
         ensures seeded { IfOk result (λ v. AreSeeded self.entry.seed v.items) }
@@ -174,7 +181,8 @@ impl<'a, S: Sources + Drop> Job<'a, S> {
         requires read { IsRead expression.now }
         ensures evaluated { IfSome (S.texts self.entry.inputs.sources) (λ texts. IfOk result (λ v.
             IsEvaluated (options_of self.entry.options.now) self.entry.seed expression.now.text.now texts v.items)) }
-        ensures failed { IfErr result (IsOfThetas (options_of self.entry.options.now) self.entry.seed (S.texts self.entry.inputs.sources)) }
+        ensures failed { IfErr result
+            (IsOfThetas (options_of self.entry.options.now) self.entry.seed (S.texts self.entry.inputs.sources)) }
         ensures fallible { IfErr result (UnreadableIf S.may_fail) }
     {
         let (alloc, options, seed) = (self.alloc, self.options, self.seed);
@@ -188,8 +196,8 @@ impl<'a, S: Sources + Drop> Job<'a, S> {
         put_result(alloc, options, expression.text, &result)
     }
 
-    /// The result of an expression over the sketches of the sources, which have its names in their order: sketches of sums, or
-    /// theta sketches.
+    /// The result of an expression over the sketches of the sources, which have its names in their order: sketches of
+    /// sums, or theta sketches.
     pub fn evaluate<C: Console>(
         self,
         expression: &Expression<'_>,
@@ -200,7 +208,8 @@ impl<'a, S: Sources + Drop> Job<'a, S> {
         ensures evaluated { IfSome (S.texts self.entry.inputs.sources) (λ texts. IfOk result (λ v.
             IsEvaluatedBy self.entry.options.now.sums (options_of self.entry.options.now) self.entry.seed expression.now.text.now texts v.items)) }
         ensures failed { IfErr result (
-            IsOfEvaluation self.entry.options.now.sums (options_of self.entry.options.now) self.entry.seed expression.now.text.now
+            IsOfEvaluation self.entry.options.now.sums (options_of self.entry.options.now) self.entry.seed
+            expression.now.text.now
             (S.texts self.entry.inputs.sources)) }
         ensures fallible { IfErr result (UnreadableIf S.may_fail) }
     {

@@ -50,8 +50,8 @@ fn unevaluated(alloc: Global, text: &str, error: Error) -> Failure
     }
 }
 
-/// The result of an expression over one sketch of sums per name, each of this seed. It fails if memory is refused, or if
-/// the sum of a key would be 2^64 or more.
+/// The result of an expression over one sketch of sums per name, each of this seed. It fails if memory is refused, or
+/// if the sum of a key would be 2^64 or more.
 fn result_of(
     alloc: Global,
     options: &Options<'_>,
@@ -63,9 +63,14 @@ fn result_of(
     requires seeded { AreSeeded seed sketches.now }
     requires read { IsRead expression.now }
     requires counted { length expression.now.names.items ≡ length sketches.now }
-    ensures value { (spelled : IsExpressionText expression.now.text.now (names_of expression.now.names.items) expression.now.steps.items)
-        → IfOk result (λ s. s ≡ ordered_sketch (sums_value options.now.lg_k (sums_values sketches.now) spelled.tree) (seed_hash seed)) }
-    ensures failed { IfErr result (IsOfResult options.now.lg_k expression.now.text.now expression.now.steps.items sketches.now) }
+    ensures value { (spelled : IsExpressionText expression.now.text.now (names_of expression.now.names.items)
+        expression.now.steps.items)
+        → IfOk result (λ s.
+        s
+        ≡ ordered_sketch (sums_value options.now.lg_k (sums_values sketches.now) spelled.tree)
+        (seed_hash seed)) }
+    ensures failed { IfErr result
+        (IsOfResult options.now.lg_k expression.now.text.now expression.now.steps.items sketches.now) }
     ensures fallible { (may_fail : Bool) → IfErr result (UnreadableIf may_fail) }
 {
     let steps = expression.steps.as_slice();
@@ -101,7 +106,8 @@ impl<'a, S: Sources + Drop> Job<'a, S> {
         ensures operands { IfSome (S.texts self.entry.inputs.sources) (λ texts.
             IfOk result (λ v. AreReadSums self.entry.seed (images_of true self.entry.options.now.hex texts) v.items)) }
         ensures failed { IfErr result (
-            IsOfImages true self.entry.options.now.hex self.entry.seed (images_in true (options_of self.entry.options.now) (S.texts self.entry.inputs.sources))) }
+            IsOfImages true self.entry.options.now.hex self.entry.seed
+            (images_in true (options_of self.entry.options.now) (S.texts self.entry.inputs.sources))) }
         ensures fallible { IfErr result (UnreadableIf S.may_fail) }
     {
         let (alloc, options, seed) = (self.alloc, self.options, self.seed);

@@ -71,8 +71,8 @@ fn unnamed(alloc: Global, text: &str, reason: Unlisted) -> Failure
     }
 }
 
-/// The expression that a text spells. It fails with `NoExpression` if the text spells none, with `NoName` if one of its
-/// names is not UTF-8 text, which no name of a text is, or with `Memory`.
+/// The expression that a text spells. It fails with `NoExpression` if the text spells none, with `NoName` if one of
+/// its names is not UTF-8 text, which no name of a text is, or with `Memory`.
 pub fn expression_in(alloc: Global, text: &str) -> Result<Expression<'_>, Failure>
     ensures read { IfOk result IsRead }
     ensures text { IfOk result (λ e. e.text.now ≡ text.now) }
@@ -89,8 +89,8 @@ pub fn expression_in(alloc: Global, text: &str) -> Result<Expression<'_>, Failur
     }
 }
 
-/// The expression that the only one of some words spells. It fails with `NotOneExpression` if there is not one word, or as
-/// `expression_in` does.
+/// The expression that the only one of some words spells. It fails with `NotOneExpression` if there is not one word,
+/// or as `expression_in` does.
 pub fn only_expression(alloc: Global, words: &[String]) -> Result<Expression<'_>, Failure>
     ensures read { IfOk result IsRead }
     ensures word { IfOk result (λ e. names_of words.now ≡ e.text.now ∷ []) }

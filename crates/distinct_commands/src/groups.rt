@@ -69,7 +69,8 @@ pub struct GroupPrinter<'a> {
 impl<'a> GroupPrinter<'a> {
     /// The line of a group of this name: its image, or its count. It fails if memory is refused.
     fn line(self, name: &[u8], sketch: &CompactThetaSketch) -> Result<Vec<u8>, Failure>
-        ensures line { IfOk result (λ text. text.items ≡ group_line self.entry.images (options_of self.entry.options.now) name.now sketch.now) }
+        ensures line { IfOk result (λ text.
+            text.items ≡ group_line self.entry.images (options_of self.entry.options.now) name.now sketch.now) }
         ensures memory { IfErr result (λ f. f ≡ failure.Memory) }
     {
         if !self.images {
@@ -83,7 +84,8 @@ impl<'a> GroupPrinter<'a> {
     fn groups_text(self, groups: &mut Groups) -> Result<Vec<u8>, Failure>
         ensures printed { (grouping : Grouping) (lines names : List (List ℕ))
             → AreLeft grouping lines names groups.old
-            → IfOk result (λ v. v.items ≡ groups_text self.entry.images (options_of self.entry.options.now) grouping lines names) }
+            → IfOk result (λ v.
+            v.items ≡ groups_text self.entry.images (options_of self.entry.options.now) grouping lines names) }
         ensures memory { IfErr result (λ f. f ≡ failure.Memory) }
     {
         let mut printed = Vec::new(self.alloc);
@@ -103,8 +105,11 @@ impl<'a> GroupPrinter<'a> {
     /// A group with its line, to be ordered by its estimate. It fails if memory is refused.
     fn ranked(self, group: Group) -> Result<Ranked, Failure>
         ensures name { IfOk result (λ r. r.name.items ≡ group.name.items) }
-        ensures estimate { IfOk result (λ r. r.estimate ≡ (report_by (options_of self.entry.options.now) group.sketch).estimate) }
-        ensures text { IfOk result (λ r. r.text.items ≡ group_line self.entry.images (options_of self.entry.options.now) group.name.items group.sketch) }
+        ensures estimate { IfOk result (λ r.
+            r.estimate ≡ (report_by (options_of self.entry.options.now) group.sketch).estimate) }
+        ensures text { IfOk result (λ r.
+            r.text.items
+            ≡ group_line self.entry.images (options_of self.entry.options.now) group.name.items group.sketch) }
         ensures memory { IfErr result (λ f. f ≡ failure.Memory) }
     {
         let Group { name, sketch } = group;
@@ -145,7 +150,8 @@ impl<'a> GroupPrinter<'a> {
         ensures printed { (grouping : Grouping) (lines names : List (List ℕ))
             → AreLeft grouping lines names groups.old
             → IfOk result (λ v. (ordered : List (List ℕ))
-            × AreOrdered (chosen_order (options_of self.entry.options.now)) (group_estimate (options_of self.entry.options.now) grouping lines) names ordered
+            × AreOrdered (chosen_order (options_of self.entry.options.now))
+            (group_estimate (options_of self.entry.options.now) grouping lines) names ordered
             × (v.items ≡ groups_text self.entry.images (options_of self.entry.options.now) grouping lines ordered)) }
         ensures memory { IfErr result (λ f. f ≡ failure.Memory) }
     {
@@ -157,7 +163,8 @@ impl<'a> GroupPrinter<'a> {
 
     /// The head of a table of groups, if there is to be one.
     fn head(self) -> Result<String, AllocError>
-        ensures { IfOk result (λ text. string_bytes text ≡ groups_head self.entry.images (options_of self.entry.options.now)) }
+        ensures { IfOk result (λ text.
+            string_bytes text ≡ groups_head self.entry.images (options_of self.entry.options.now)) }
     {
         if self.images {
             Ok(String::new(self.alloc))
@@ -166,13 +173,14 @@ impl<'a> GroupPrinter<'a> {
         }
     }
 
-    /// The lines of groups, in the order that options choose, after the head of a table if there is to be one. It fails
-    /// if memory is refused.
+    /// The lines of groups, in the order that options choose, after the head of a table if there is to be one. It
+    /// fails if memory is refused.
     pub fn table(self, groups: &mut Groups) -> Result<Vec<u8>, Failure>
         ensures printed { (grouping : Grouping) (lines names : List (List ℕ))
             → AreLeft grouping lines names groups.old
             → IfOk result (λ v. (ordered : List (List ℕ))
-            × AreOrdered (chosen_order (options_of self.entry.options.now)) (group_estimate (options_of self.entry.options.now) grouping lines) names ordered
+            × AreOrdered (chosen_order (options_of self.entry.options.now))
+            (group_estimate (options_of self.entry.options.now) grouping lines) names ordered
             × (v.items ≡ groups_head self.entry.images (options_of self.entry.options.now)
             ++ groups_text self.entry.images (options_of self.entry.options.now) grouping lines ordered)) }
         ensures memory { IfErr result (λ f. f ≡ failure.Memory) }
@@ -185,8 +193,8 @@ impl<'a> GroupPrinter<'a> {
     }
 }
 
-/// The file of each group of the lines of all sources in turn, by this key. It fails if memory is refused or a source can't
-/// be read.
+/// The file of each group of the lines of all sources in turn, by this key. It fails if memory is refused or a source
+/// can't be read.
 pub fn group_files<S: Sources + Drop, C: Console>(
     alloc: Global,
     options: &Options<'_>,
@@ -215,7 +223,8 @@ pub fn group_files<S: Sources + Drop, C: Console>(
 }
 
 impl<'a, S: Sources + Drop> Job<'a, S> {
-    /// The groups of the lines of all sources in turn, by this key. It fails if memory is refused or a source can't be read.
+    /// The groups of the lines of all sources in turn, by this key. It fails if memory is refused or a source can't
+    /// be read.
     pub fn read_groups<C: Console>(self, by: Key, console: &mut C) -> Result<Groups, Failure>
         requires seeded { seed_hash self.seed ≢ 0 }
         ensures grouped { IfSome (S.texts self.entry.inputs.sources) (λ texts.

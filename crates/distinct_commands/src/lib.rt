@@ -1,4 +1,5 @@
-//! The commands of the program `distinct`: what each prints or writes, over any sources of lines and images and any writer.
+//! The commands of the program `distinct`: what each prints or writes, over any sources of lines and images and any
+//! writer.
 //!
 //! The promise is that of `perform`: what a command writes is bound to its options, its seed, and the names and texts
 //! of its files. A command that fails returns a [`Failure`], and has written nothing unless the writer failed.

@@ -79,7 +79,8 @@ impl<'a, S: Sources + Drop> Job<'a, S> {
         ensures shown { IfSome (S.texts self.entry.inputs.sources) (λ texts.
             IfOk result (λ v. IsShownOf (options_of self.entry.options.now) self.entry.seed (names_of files.now) texts v.items)) }
         ensures failed { IfErr result (
-            IsOfImages false self.entry.options.now.hex self.entry.seed (images_in false (options_of self.entry.options.now) (S.texts self.entry.inputs.sources))) }
+            IsOfImages false self.entry.options.now.hex self.entry.seed
+            (images_in false (options_of self.entry.options.now) (S.texts self.entry.inputs.sources))) }
         ensures fallible { IfErr result (UnreadableIf S.may_fail) }
     {
         let (alloc, options, seed) = (self.alloc, self.options, self.seed);
@@ -105,7 +106,8 @@ fn show_lines<S: Sources>(
 ) -> Result<Vec<u8>, Failure>
     ensures shown { IfSome (remaining_images S.Source.remaining S.texts images.old) (λ all.
         IfOk result (λ v. AreShown (options_of options.now) seed all v.items)) }
-    ensures failed { IfErr result (IsOfImages false options.now.hex seed (remaining_images S.Source.remaining S.texts images.old)) }
+    ensures failed { IfErr result
+        (IsOfImages false options.now.hex seed (remaining_images S.Source.remaining S.texts images.old)) }
     ensures fallible { IfErr result (UnreadableIf S.may_fail) }
 {
     let mut shown = Vec::new(alloc);
@@ -129,7 +131,8 @@ fn show_files<S: Sources>(
 ) -> Result<Vec<u8>, Failure>
     ensures shown { IfSome (remaining_images S.Source.remaining S.texts images.old) (λ all.
         IfOk result (λ v. AreShownByName (options_of options.now) seed (names_of files.now) all v.items)) }
-    ensures failed { IfErr result (IsOfImages false options.now.hex seed (remaining_images S.Source.remaining S.texts images.old)) }
+    ensures failed { IfErr result
+        (IsOfImages false options.now.hex seed (remaining_images S.Source.remaining S.texts images.old)) }
     ensures fallible { IfErr result (UnreadableIf S.may_fail) }
 {
     let mut shown = Vec::new(alloc);

@@ -9,7 +9,8 @@ ghost use Rattle.keys_sums.specs.declared.addends.Amount.TheVariants.{One};
 ghost use Rattle.distinct_inputs.specs.declared.failure.Failure.TheVariants as failure;
 ghost use Rattle.distinct_arguments.specs.Faults.{options_of};
 ghost use Rattle.distinct_arguments.specs.Settings.{OptionValues, chosen_value};
-ghost use Rattle.distinct_inputs.specs.Failures.{chosen_amount, HasGreatSum, HasNoNumberIn, IsOfSums, IsOfTotal, UnreadableIf};
+ghost use Rattle.distinct_inputs.specs.Failures.{chosen_amount, HasGreatSum, HasNoNumberIn, IsOfSums, IsOfTotal};
+ghost use Rattle.distinct_inputs.specs.Failures.{UnreadableIf};
 ghost use Rattle.distinct_commands.specs.Sums.{sums_of, total_text, IsSumsText, IsTotalText};
 
 use crate::commands::in_form;
@@ -67,7 +68,8 @@ fn not_a_number<S: Sources>(alloc: Global, inputs: &Inputs<'_, S>, line: u64) ->
 fn image_of_sums(sums: &CompactTupleSketch<u64>, seed: u64) -> Result<Vec<u8>, Failure>
     requires seeded { seed_hash seed ≢ 0 }
     ensures image { IfOk result (λ v. v.items ≡ written_sums sums.now) }
-    ensures reads { sums.now.seed_hash ≡ seed_hash seed → IfOk result (λ v. ReadsSums v.items (seed_hash seed) sums.now) }
+    ensures reads { sums.now.seed_hash ≡ seed_hash seed
+        → IfOk result (λ v. ReadsSums v.items (seed_hash seed) sums.now) }
     ensures memory { IfErr result (λ f. f ≡ failure.Memory) }
 {
     match sums_image(sums) {
@@ -98,14 +100,17 @@ pub fn total_text(
 }
 
 impl<'a, S: Sources + Drop> Job<'a, S> {
-    /// The sketch of the lines of all sources, each key with the sum of what its lines add. It fails if memory is refused, a
-    /// source can't be read, a sum would be 2^64 or more, or a line adds no number.
+    /// The sketch of the lines of all sources, each key with the sum of what its lines add. It fails if memory is
+    /// refused, a source can't be read, a sum would be 2^64 or more, or a line adds no number.
     pub fn sums_of(self, amount: Amount) -> Result<CompactTupleSketch<u64>, Failure>
         requires seeded { seed_hash self.seed ≢ 0 }
         ensures sums { IfSome (S.texts self.entry.inputs.sources) (λ texts.
             IfOk result (λ s. s ≡ sums_of (options_of self.entry.options.now) amount self.entry.seed texts)) }
-        ensures numbers { IfSome (S.texts self.entry.inputs.sources) (λ texts. IfOk result (λ _. AreNumbers amount (lines_of_all texts))) }
-        ensures failed { IfErr result (IsOfSums (options_of self.entry.options.now) self.entry.seed amount (S.texts self.entry.inputs.sources)) }
+        ensures numbers { IfSome (S.texts self.entry.inputs.sources) (λ texts.
+            IfOk result (λ _. AreNumbers amount (lines_of_all texts))) }
+        ensures failed { IfErr result
+            (IsOfSums (options_of self.entry.options.now) self.entry.seed amount
+            (S.texts self.entry.inputs.sources)) }
         ensures fallible { IfErr result (UnreadableIf S.may_fail) }
     {
         let (alloc, options, seed) = (self.alloc, self.options, self.seed);
@@ -123,13 +128,15 @@ impl<'a, S: Sources + Drop> Job<'a, S> {
         }
     }
 
-    /// What `sketch` writes of the sums of what the lines of all sources add. It fails if memory is refused, a source can't
-    /// be read, a sum would be 2^64 or more, or a line adds no number.
+    /// What `sketch` writes of the sums of what the lines of all sources add. It fails if memory is refused, a source
+    /// can't be read, a sum would be 2^64 or more, or a line adds no number.
     pub fn write_sums(self, amount: Amount) -> Result<Vec<u8>, Failure>
         requires seeded { seed_hash self.seed ≢ 0 }
         ensures written { IfSome (S.texts self.entry.inputs.sources) (λ texts.
             IfOk result (λ v. IsSumsText amount (options_of self.entry.options.now) self.entry.seed texts v.items)) }
-        ensures failed { IfErr result (IsOfSums (options_of self.entry.options.now) self.entry.seed amount (S.texts self.entry.inputs.sources)) }
+        ensures failed { IfErr result
+            (IsOfSums (options_of self.entry.options.now) self.entry.seed amount
+            (S.texts self.entry.inputs.sources)) }
         ensures fallible { IfErr result (UnreadableIf S.may_fail) }
     {
         let (alloc, options, seed) = (self.alloc, self.options, self.seed);
@@ -138,13 +145,14 @@ impl<'a, S: Sources + Drop> Job<'a, S> {
         in_form(alloc, options.hex, image)
     }
 
-    /// What `sum` prints of the lines of all sources. It fails if no field has the lines' numbers, memory is refused, a source
-    /// can't be read, a sum would be 2^64 or more, or a line has no number.
+    /// What `sum` prints of the lines of all sources. It fails if no field has the lines' numbers, memory is refused,
+    /// a source can't be read, a sum would be 2^64 or more, or a line has no number.
     pub fn sum_inputs(self) -> Result<Vec<u8>, Failure>
         requires seeded { seed_hash self.seed ≢ 0 }
         ensures printed { IfSome (S.texts self.entry.inputs.sources) (λ texts. IfOk result (λ v.
             IsTotalText (chosen_value (options_of self.entry.options.now)) (options_of self.entry.options.now) self.entry.seed texts v.items)) }
-        ensures failed { IfErr result (IsOfTotal (options_of self.entry.options.now) self.entry.seed (S.texts self.entry.inputs.sources)) }
+        ensures failed { IfErr result
+            (IsOfTotal (options_of self.entry.options.now) self.entry.seed (S.texts self.entry.inputs.sources)) }
         ensures fallible { IfErr result (UnreadableIf S.may_fail) }
     {
         let (alloc, options) = (self.alloc, self.options);

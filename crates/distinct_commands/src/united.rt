@@ -62,8 +62,8 @@ fn remark_coarser<C: Console>(retained: u64, lg_k: u8, console: &mut C) {
 }
 
 impl<'a, S: Sources + Drop> Job<'a, S> {
-    /// A line for each group of all lines, with the image of the union of its images. It fails if memory is refused, a file
-    /// can't be read, or a line isn't that of a group with an image.
+    /// A line for each group of all lines, with the image of the union of its images. It fails if memory is refused,
+    /// a file can't be read, or a line isn't that of a group with an image.
     pub fn unite_inputs<C: Console>(self, console: &mut C) -> Result<Vec<u8>, Failure>
         requires seeded { seed_hash self.seed ≢ 0 }
         ensures united { IfSome (S.texts self.entry.inputs.sources) (λ texts.

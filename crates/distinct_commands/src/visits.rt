@@ -4,9 +4,11 @@ ghost use Rattle.sketch_base.specs.Seed.{seed_hash};
 ghost use Rattle.keys_sums.specs.declared.addends.Amount.TheVariants.{One};
 ghost use Rattle.distinct_arguments.specs.Faults.{options_of};
 ghost use Rattle.keys_sums.specs.Unions.{IsUnitedSums, AreSumsOfTexts};
-ghost use Rattle.distinct_inputs.specs.Failures.{images_in, IsOfEitherUnion, IsOfSums, IsOfUniting, IsOfVisits, UnreadableIf};
+ghost use Rattle.distinct_inputs.specs.Failures.{images_in, IsOfEitherUnion, IsOfSums, IsOfUniting, IsOfVisits};
+ghost use Rattle.distinct_inputs.specs.Failures.{UnreadableIf};
 ghost use Rattle.distinct_inputs.specs.Images.{images_of, remaining_images};
-ghost use Rattle.distinct_commands.specs.Visits.{visits_of, ranges_head, bin_text, bin_up_to, visits_text, IsVisitsOfImages, IsVisitsText};
+ghost use Rattle.distinct_commands.specs.Visits.{visits_of, ranges_head, bin_text, bin_up_to, visits_text};
+ghost use Rattle.distinct_commands.specs.Visits.{IsVisitsOfImages, IsVisitsText};
 
 use crate::combine::{not_added, remark_coarser};
 use crate::job::Job;
@@ -69,7 +71,8 @@ fn put_bin(
     bin: u32,
 ) -> Result<(), AllocError>
     requires { bin < 65 }
-    ensures { OnOk result (string_bytes text.new ≡ string_bytes text.old ++ bin_up_to (options_of options.now) visits.now most bin) }
+    ensures { OnOk result
+        (string_bytes text.new ≡ string_bytes text.old ++ bin_up_to (options_of options.now) visits.now most bin) }
 {
     if least_of(bin) > most {
         return Ok(());
@@ -78,8 +81,9 @@ fn put_bin(
     text.push_str(line.as_str())
 }
 
-/// What is printed of a sketch of sums: a line for each bin up to that of the greatest sum. Each sum from 1 to 2^64 - 1 is in
-/// exactly one bin (`keys_sums::laws::numbers_are_in_one_bin`), so each retained key that occurs is counted in exactly one line.
+/// What is printed of a sketch of sums: a line for each bin up to that of the greatest sum. Each sum from 1 to 2^64 -
+/// 1 is in exactly one bin (`keys_sums::laws::numbers_are_in_one_bin`), so each retained key that occurs is counted
+/// in exactly one line.
 fn visits_text(
     alloc: Global,
     options: &Options<'_>,
@@ -119,7 +123,8 @@ impl<'a, S: Sources + Drop> Job<'a, S> {
         requires seeded { seed_hash self.seed ≢ 0 }
         ensures printed { IfSome (S.texts self.entry.inputs.sources) (λ texts. IfOk result (λ v.
             v.items ≡ visits_text (options_of self.entry.options.now) (visits_of (options_of self.entry.options.now) self.entry.seed texts))) }
-        ensures failed { IfErr result (IsOfSums (options_of self.entry.options.now) self.entry.seed One (S.texts self.entry.inputs.sources)) }
+        ensures failed { IfErr result
+            (IsOfSums (options_of self.entry.options.now) self.entry.seed One (S.texts self.entry.inputs.sources)) }
         ensures fallible { IfErr result (UnreadableIf S.may_fail) }
     {
         let (alloc, options) = (self.alloc, self.options);
@@ -128,8 +133,8 @@ impl<'a, S: Sources + Drop> Job<'a, S> {
         Ok(text.into_bytes())
     }
 
-    /// What `visits` prints of the union of the images of sums of all sources. It fails if memory is refused, a source can't
-    /// be read or isn't an image of sums, or the sum of a key is 2^64 or more.
+    /// What `visits` prints of the union of the images of sums of all sources. It fails if memory is refused, a
+    /// source can't be read or isn't an image of sums, or the sum of a key is 2^64 or more.
     fn visit_images<C: Console>(self, console: &mut C) -> Result<Vec<u8>, Failure>
         requires seeded { seed_hash self.seed ≢ 0 }
         requires sums { self.options.now.sums ≡ true }
@@ -158,7 +163,8 @@ impl<'a, S: Sources + Drop> Job<'a, S> {
         requires seeded { seed_hash self.seed ≢ 0 }
         ensures printed { IfSome (S.texts self.entry.inputs.sources) (λ texts. IfOk result (λ v.
             IsVisitsText self.entry.options.now.sums (options_of self.entry.options.now) self.entry.seed texts v.items)) }
-        ensures failed { IfErr result (IsOfVisits (options_of self.entry.options.now) self.entry.seed (S.texts self.entry.inputs.sources)) }
+        ensures failed { IfErr result
+            (IsOfVisits (options_of self.entry.options.now) self.entry.seed (S.texts self.entry.inputs.sources)) }
         ensures fallible { IfErr result (UnreadableIf S.may_fail) }
     {
         if self.options.sums {

@@ -1,5 +1,6 @@
 -- When each failure occurs.
-use Rattle.std.specs.Prelude.{ℕ, ◌≡◌, ◌≢◌, ◌⊎◌, ◌==◌, ◌&&◌, ⊤, Bool, true, false, List, [], ◌∷◌, length, Option, Some, None, IfSome, is_none, unwrap_or, String, codes, string_bytes, if◌then◌else◌}
+use Rattle.std.specs.Prelude.{ℕ, ◌≡◌, ◌≢◌, ◌⊎◌, ◌==◌, ◌&&◌, ⊤, Bool, true, false, List, [], ◌∷◌, length, Option}
+use Rattle.std.specs.Prelude.{Some, None, IfSome, is_none, unwrap_or, String, codes, string_bytes, if◌then◌else◌}
 use Rattle.std.specs.Option.{option_map}
 use Rattle.std.specs.Str.{bytes_eq}
 use Rattle.sketch_base.specs.declared.error.ErrorKind.TheVariants.{OutOfMemory, InvalidData, Policy}
@@ -30,7 +31,12 @@ use Rattle.keys_groups.specs.United.{HasFirstFlawed}
 use Rattle.keys_groups.specs.declared.united.LineFlaw.{LineFlaw}
 use Rattle.keys_groups.specs.declared.united.LineFlaw.TheVariants.{NoTab as NoTabAtAll, NoHex as NoDigits, NoImage}
 use Rattle.distinct_inputs.specs.declared.failure.Failure.{Failure}
-use Rattle.distinct_inputs.specs.declared.failure.Failure.TheVariants.{NotText, Arguments, NoFiles, NotTwo, NoExpression, NoDir, NoName, NoNul, NoSeed, Terminal, WrongCount, Memory, Unreadable, NoSketch, NoSums, NoHex, NoTab, NoLine, PastGreatest, PastUnion, NotANumber, NotWritten}
+use Rattle.distinct_inputs.specs.declared.failure.Failure.TheVariants.{NotText, Arguments, NoFiles, NotTwo}
+use Rattle.distinct_inputs.specs.declared.failure.Failure.TheVariants.{NoExpression, NoDir, NoName, NoNul, NoSeed}
+use Rattle.distinct_inputs.specs.declared.failure.Failure.TheVariants.{Terminal, WrongCount, Memory, Unreadable}
+use Rattle.distinct_inputs.specs.declared.failure.Failure.TheVariants.{NoSketch, NoSums, NoHex, NoTab, NoLine}
+use Rattle.distinct_inputs.specs.declared.failure.Failure.TheVariants.{PastGreatest, PastUnion, NotANumber}
+use Rattle.distinct_inputs.specs.declared.failure.Failure.TheVariants.{NotWritten}
 
 -- the exit status: 2 if the arguments are wrong, else 1
 abbrev pub failure_status : Failure → ℕ
@@ -68,7 +74,10 @@ ReportsNoSketch sums hex images (NoSums file number flaw) =
     (string_bytes file ≡ called images.inputs.current.now) × (number ≡ images.line) × (sums ≡ true) × (flaw ≡ unwrap_or images.flaw Damaged)
     × ((hex && images.line == 0) ≡ false) × ((hex && is_none images.flaw) ≡ false)
 ReportsNoSketch sums hex images (NoHex file number) =
-    (string_bytes file ≡ called images.inputs.current.now) × (number ≡ images.line) × ((hex && images.line == 0) ≡ false) × ((hex && is_none images.flaw) ≡ true)
+    (string_bytes file ≡ called images.inputs.current.now)
+    × (number ≡ images.line)
+    × ((hex && images.line == 0) ≡ false)
+    × ((hex && is_none images.flaw) ≡ true)
 ReportsNoSketch sums hex images (NoLine file) = (string_bytes file ≡ called images.inputs.current.now) × ((hex && images.line == 0) ≡ true)
 ReportsNoSketch sums hex images _ = ⊥
 

@@ -1,5 +1,6 @@
 -- The images in files, one after another.
-use Rattle.std.specs.Prelude.{ℕ, ◌≡◌, ◌≤◌, ◌==◌, ◌+◌, ◌-◌, ◌^◌, min, nat_lt, ⊤, Bool, true, false, List, [], ◌∷◌, ◌++◌, length, map, take, drop, unwrap_or, Option, Some, None, IfSome, if◌then◌else◌}
+use Rattle.std.specs.Prelude.{ℕ, ◌≡◌, ◌≤◌, ◌==◌, ◌+◌, ◌-◌, ◌^◌, min, nat_lt, ⊤, Bool, true, false, List, [], ◌∷◌}
+use Rattle.std.specs.Prelude.{◌++◌, length, map, take, drop, unwrap_or, Option, Some, None, IfSome, if◌then◌else◌}
 use Rattle.std.specs.Option.{option_map, option_map_or}
 use Rattle.std.specs.Io.Buffered.{reader_remaining}
 use Rattle.std.specs.declared.io.buffered.BufReader.{BufReader}
@@ -98,11 +99,19 @@ abbrev pub parts_left : (hex : Bool) → (open_text : Option (Option (List ℕ))
 parts_left hex open_text line texts = if hex then before_texts (open_images line open_text) texts else texts
 
 -- .. by the state of the reader of images
-abbrev pub remaining_parts : {S R : Type 0} → (remaining : R → Option (List ℕ)) → (texts : S → Option (List (List ℕ))) → Images S R → Option (List (List ℕ))
+abbrev pub remaining_parts : {S R : Type 0}
+    → (remaining : R → Option (List ℕ))
+    → (texts : S → Option (List (List ℕ)))
+    → Images S R
+    → Option (List (List ℕ))
 remaining_parts remaining texts images = parts_left images.hex (open_text remaining images.«open») images.line (texts images.inputs.sources)
 
 -- the images that are left
-abbrev pub remaining_images : {S R : Type 0} → (remaining : R → Option (List ℕ)) → (texts : S → Option (List (List ℕ))) → Images S R → Option (List (List ℕ))
+abbrev pub remaining_images : {S R : Type 0}
+    → (remaining : R → Option (List ℕ))
+    → (texts : S → Option (List (List ℕ)))
+    → Images S R
+    → Option (List (List ℕ))
 remaining_images remaining texts images = option_map (map (alone images.sums)) (remaining_parts remaining texts images)
 
 -- the next image is the first that was left, or the open file has none, and it is closed and the same images are left
@@ -157,4 +166,9 @@ CountsLine (Some reader) old new = new ≡ next_number old
 -- the reader of images is where it was
 abbrev pub IsSameReader : {S R : Type 0} → (old new : Images S R) → Type 0
 IsSameReader old new =
-    (new.inputs ≡ old.inputs) × (new.sums ≡ old.sums) × (new.hex ≡ old.hex) × (new.«open» ≡ old.«open») × (new.line ≡ old.line) × (new.seed ≡ old.seed)
+    (new.inputs ≡ old.inputs)
+    × (new.sums ≡ old.sums)
+    × (new.hex ≡ old.hex)
+    × (new.«open» ≡ old.«open»)
+    × (new.line ≡ old.line)
+    × (new.seed ≡ old.seed)

@@ -1,5 +1,6 @@
 -- Lists of names of files.
-use Rattle.std.specs.Prelude.{ℕ, ◌≡◌, ◌≢◌, ◌==◌, ◌+◌, ◌-◌, ◌^◌, ◌&&◌, not, min, ⊤, Bool, List, [], ◌∷◌, ◌++◌, length, if◌then◌else◌, map, String, Vec, string_bytes, IsUtf8}
+use Rattle.std.specs.Prelude.{ℕ, ◌≡◌, ◌≢◌, ◌==◌, ◌+◌, ◌-◌, ◌^◌, ◌&&◌, not, min, ⊤, Bool, List, [], ◌∷◌, ◌++◌}
+use Rattle.std.specs.Prelude.{length, if◌then◌else◌, map, String, Vec, string_bytes, IsUtf8}
 use Rattle.std.specs.List.{onto_first, list_any, AllByRecursion}
 use Rattle.distinct_inputs.specs.declared.lists.Unlisted.{Unlisted}
 use Rattle.distinct_inputs.specs.declared.lists.Unlisted.TheVariants.{Name, Memory}

@@ -29,7 +29,8 @@ pub enum Failure {
     Terminal,
     /// The images found are not as many as the second number, which was expected.
     WrongCount(u64, u64),
-    /// The images found are not as many as the names of an expression, the second number: with `--hex` each file has one.
+    /// The images found are not as many as the names of an expression, the second number: with `--hex` each file has
+    /// one.
     NotOneEach(u64, u64),
     /// The folder that `-C` names can't be entered.
     NoDir(String, io::Error),
@@ -55,8 +56,8 @@ pub enum Failure {
     NoLine(String),
     /// The line of this number, from 1, of a file would make the sum of its key 2^64 or more.
     PastGreatest(String, u64),
-    /// With the image in a file, or in its line of this number, from 1, the sum of a key would be 2^64 or more; 0 if the
-    /// whole file is meant.
+    /// With the image in a file, or in its line of this number, from 1, the sum of a key would be 2^64 or more; 0 if
+    /// the whole file is meant.
     PastUnion(String, u64),
     /// The sum of a key in the result of this expression, or of a part of it, would be 2^64 or more.
     PastResult(String),

@@ -1,11 +1,14 @@
 //! The images in files: a file is one image and nothing else, or each of its lines is one in hexadecimal, with blanks
 //! allowed around it.
-ghost use Rattle.std.specs.Prelude.{◌≡◌, ◌≤◌, ◌<◌, ◌^◌, ℕ, List, Option, true, false, Some, None, IfOk, IfSome, IfNone, OnOk, max, nat_lt, if◌then◌else◌, Bool};
+ghost use Rattle.std.specs.Prelude.{◌≡◌, ◌≤◌, ◌<◌, ◌^◌, ℕ, List, Option, true, false, Some, None, IfOk, IfSome};
+ghost use Rattle.std.specs.Prelude.{IfNone, OnOk, max, nat_lt, if◌then◌else◌, Bool};
 ghost use Rattle.sketch_base.specs.Seed.{seed_hash};
 ghost use Rattle.keys_sketches.specs.Sources.{GivesNext};
-ghost use Rattle.distinct_inputs.specs.Images.{remaining_images, remaining_parts, alone, image_flaw, is_followed, length_of, count_of, line_image};
+ghost use Rattle.distinct_inputs.specs.Images.{remaining_images, remaining_parts, alone, image_flaw, is_followed};
+ghost use Rattle.distinct_inputs.specs.Images.{length_of, count_of, line_image};
 ghost use Rattle.distinct_inputs.specs.Images.{CountsLine, HasNoSketch, IsAlone, GivesOrCloses, IsSameReader};
-ghost use Rattle.distinct_inputs.specs.Failures.{called, IsOfImages, IsOfReading, NotesNext, ReportsUnreadable, ReportsNoSketch, ReportsPastUnion, UnreadableIf};
+ghost use Rattle.distinct_inputs.specs.Failures.{called, IsOfImages, IsOfReading, NotesNext, ReportsUnreadable};
+ghost use Rattle.distinct_inputs.specs.Failures.{ReportsNoSketch, ReportsPastUnion, UnreadableIf};
 
 use crate::failure::Failure;
 use crate::inputs::Inputs;
@@ -59,8 +62,8 @@ fn is_followed(sums: bool, bytes: &[u8]) -> bool
     }
 }
 
-/// The bytes of an image with nothing behind it. If something is behind it, there are no bytes, which can't be read as a
-/// sketch, since a second image there would be ignored.
+/// The bytes of an image with nothing behind it. If something is behind it, there are no bytes, which can't be read
+/// as a sketch, since a second image there would be ignored.
 fn alone(alloc: Global, sums: bool, bytes: Vec<u8>) -> Vec<u8>
     ensures bytes { result.items ≡ alone sums bytes.items }
     ensures alone { IsAlone sums result.items }
@@ -145,8 +148,9 @@ impl<'a, S: Sources> Images<'a, S> {
         self.inputs.unreadable(self.alloc, error)
     }
 
-    /// The failure if the file, or its line, isn't an image, or if it has no line: of images of sums or of theta sketches,
-    /// each a file or with `hex` a line. What a union leaves of the reader is unspecified, so the caller says again which.
+    /// The failure if the file, or its line, isn't an image, or if it has no line: of images of sums or of theta
+    /// sketches, each a file or with `hex` a line. What a union leaves of the reader is unspecified, so the caller
+    /// says again which.
     pub fn no_sketch(&self, sums: bool, hex: bool) -> Failure
         ensures reports { ReportsNoSketch sums hex self.now result }
         ensures of_images { (seed : ℕ) (images : Option (List (List ℕ)))
@@ -204,7 +208,8 @@ impl<'a, S: Sources> Images<'a, S> {
     fn note(&mut self, image: &[u8])
         ensures flaw { self.new.flaw ≡ Some (image_flaw self.old.sums (seed_hash self.old.seed) image.now) }
         ensures same { IsSameReader self.old self.new }
-        ensures left { remaining_parts S.Source.remaining S.texts self.new ≡ remaining_parts S.Source.remaining S.texts self.old }
+        ensures left { remaining_parts S.Source.remaining S.texts self.new
+            ≡ remaining_parts S.Source.remaining S.texts self.old }
         ensures most { self.new.most ≡ max self.old.most (count_of self.old.sums image.now) }
         ensures most_name { self.new.most_name.now ≡ (
             if nat_lt self.old.most (count_of self.old.sums image.now)
@@ -223,9 +228,9 @@ impl<'a, S: Sources> Images<'a, S> {
         }
     }
 
-    /// The next image, or `None` at the end. Nothing follows it in its file or line. If something follows an image, if a
-    /// line isn't hexadecimal, or if a file that should have lines has none, it returns no bytes, which can't be read as a
-    /// sketch. An error means that the file can't be read.
+    /// The next image, or `None` at the end. Nothing follows it in its file or line. If something follows an image,
+    /// if a line isn't hexadecimal, or if a file that should have lines has none, it returns no bytes, which can't be
+    /// read as a sketch. An error means that the file can't be read.
     pub fn next_image(&mut self) -> io::Result<Option<Vec<u8>>>
         ensures next { IfOk result (GivesNext (λ v. Some v.items)
             (remaining_images S.Source.remaining S.texts self.old)
@@ -256,10 +261,12 @@ impl<'a, S: Sources> Images<'a, S> {
 
     /// All bytes of the next file.
     fn next_whole(&mut self) -> io::Result<Option<Vec<u8>>>
-        ensures next { IfOk result (GivesNext (λ v. Some v.items) (S.texts self.old.inputs.sources) (S.texts self.new.inputs.sources)) }
+        ensures next { IfOk result
+            (GivesNext (λ v. Some v.items) (S.texts self.old.inputs.sources) (S.texts self.new.inputs.sources)) }
         ensures hex { self.new.hex ≡ self.old.hex }
         ensures sums { self.new.sums ≡ self.old.sums }
-        ensures named { NotesNext self.old.inputs.current.now self.old.inputs.left.now self.new.inputs.current.now self.new.inputs.left.now }
+        ensures named { NotesNext self.old.inputs.current.now self.old.inputs.left.now self.new.inputs.current.now
+            self.new.inputs.left.now }
         ensures noted { IfOk result (λ image. IfSome image (λ v. count_of self.old.sums v.items ≤ self.new.most)) }
     {
         let Some(mut input) = self.inputs.next_source()? else {
@@ -271,8 +278,8 @@ impl<'a, S: Sources> Images<'a, S> {
         Ok(Some(image))
     }
 
-    /// What the next line of the files spells. For a file without a line it returns no bytes: otherwise nothing would show
-    /// that its image is missing.
+    /// What the next line of the files spells. For a file without a line it returns no bytes: otherwise nothing would
+    /// show that its image is missing.
     fn next_line(&mut self) -> io::Result<Option<Vec<u8>>>
         requires lines { self.old.hex ≡ true }
         ensures next { IfOk result (GivesNext (λ v. Some v.items)
@@ -300,7 +307,8 @@ impl<'a, S: Sources> Images<'a, S> {
         ensures hex { self.new.hex ≡ self.old.hex }
         ensures sums { self.new.sums ≡ self.old.sums }
         ensures named { self.new.inputs ≡ self.old.inputs }
-        ensures counted { IfOk result (λ image. IfSome image (λ _. CountsLine self.new.«open» self.old.line self.new.line)) }
+        ensures counted { IfOk result (λ image.
+            IfSome image (λ _. CountsLine self.new.«open» self.old.line self.new.line)) }
         ensures next { IfOk result (GivesOrCloses (λ v. v.items)
             (remaining_parts S.Source.remaining S.texts self.old)
             (remaining_parts S.Source.remaining S.texts self.new)
@@ -324,11 +332,13 @@ impl<'a, S: Sources> Images<'a, S> {
         Ok(Some(image))
     }
 
-    /// The bytes that a line spells, whose preamble is noted; no bytes if it spells none. The only error is refused memory.
+    /// The bytes that a line spells, whose preamble is noted; no bytes if it spells none. The only error is refused
+    /// memory.
     fn spelled(&mut self, line: &[u8]) -> io::Result<Vec<u8>>
         ensures spelled { IfOk result (λ v. v.items ≡ line_image line.now) }
         ensures same { IsSameReader self.old self.new }
-        ensures left { remaining_parts S.Source.remaining S.texts self.new ≡ remaining_parts S.Source.remaining S.texts self.old }
+        ensures left { remaining_parts S.Source.remaining S.texts self.new
+            ≡ remaining_parts S.Source.remaining S.texts self.old }
         ensures most { OnOk result (self.new.most ≡ max self.old.most (count_of self.old.sums (line_image line.now))) }
     {
         self.flaw = None;

@@ -1,7 +1,8 @@
 //! The files that the program reads.
 ghost use Rattle.std.specs.Prelude.{◌≡◌, Bool, true, false, None, Some, IfOk, IfErr, IfSome, OnOk};
 ghost use Rattle.keys_sketches.specs.Sources.{GivesNext};
-ghost use Rattle.distinct_inputs.specs.Failures.{called, IsOfList, IsOfReading, NotesNext, ReportsUnreadable, UnreadableIf};
+ghost use Rattle.distinct_inputs.specs.Failures.{called, IsOfList, IsOfReading, NotesNext, ReportsUnreadable};
+ghost use Rattle.distinct_inputs.specs.Failures.{UnreadableIf};
 ghost use Rattle.distinct_inputs.specs.Lists.{are_lines, names_in, names_of};
 
 use crate::failure::Failure;
@@ -170,7 +171,8 @@ impl<'a, S: Sources> Sources for Inputs<'a, S> {
     }
 
     fn next_source(&mut self) -> io::Result<Option<S::Source>>
-        ensures next { IfOk result (GivesNext S.Source.remaining (S.texts self.old.sources) (S.texts self.new.sources)) }
+        ensures next { IfOk result
+            (GivesNext S.Source.remaining (S.texts self.old.sources) (S.texts self.new.sources)) }
         ensures named { NotesNext self.old.current.now self.old.left.now self.new.current.now self.new.left.now }
     {
         if let Some((name, others)) = self.left.split_first() {
@@ -230,8 +232,8 @@ fn are_lines(list: &[u8]) -> bool
     !list.contains(&0) && list.contains(&b'\n')
 }
 
-/// The names of files in a list, whose bytes these are; the list has this name in messages. A list of lines without a NUL
-/// byte is refused: its names would be read as one.
+/// The names of files in a list, whose bytes these are; the list has this name in messages. A list of lines without a
+/// NUL byte is refused: its names would be read as one.
 fn listed(alloc: Global, name: &str, list: &[u8]) -> Result<Vec<String>, Failure>
     ensures names { IfOk result (λ v. names_of v.items ≡ names_in list.now) }
     ensures ended { OnOk result (are_lines list.now ≡ false) }
@@ -254,8 +256,8 @@ fn listed(alloc: Global, name: &str, list: &[u8]) -> Result<Vec<String>, Failure
     }
 }
 
-/// The names of files in a list that a reader has left, which has this name in messages. A NUL byte ends each, which the
-/// last may lack. A list of lines without a NUL byte is refused.
+/// The names of files in a list that a reader has left, which has this name in messages. A NUL byte ends each, which
+/// the last may lack. A list of lines without a NUL byte is refused.
 pub fn names_from<R: TextReader>(
     alloc: Global,
     name: &str,

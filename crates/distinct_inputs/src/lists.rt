@@ -53,8 +53,8 @@ fn put_name(alloc: Global, names: &mut Vec<String>, name: &[u8]) -> Result<(), U
     }
 }
 
-/// The names in a list. A NUL byte ends each, which the last may lack. It fails with the number, from 1, of the first name
-/// that is empty or not UTF-8 text, or if memory is refused.
+/// The names in a list. A NUL byte ends each, which the last may lack. It fails with the number, from 1, of the first
+/// name that is empty or not UTF-8 text, or if memory is refused.
 pub fn names_in(alloc: Global, list: &[u8]) -> Result<Vec<String>, Unlisted>
     ensures names { IfOk result (λ v. names_of v.items ≡ names_in list.now) }
     ensures failed { IfErr result (IsUnlisted (names_in list.now)) }
@@ -72,8 +72,8 @@ pub fn names_in(alloc: Global, list: &[u8]) -> Result<Vec<String>, Unlisted>
     Ok(names)
 }
 
-/// Names as texts. It fails with the number, from 1, of the first name that is empty or not UTF-8 text, or if memory is
-/// refused.
+/// Names as texts. It fails with the number, from 1, of the first name that is empty or not UTF-8 text, or if memory
+/// is refused.
 pub fn texts_of(alloc: Global, names: &[Vec<u8>]) -> Result<Vec<String>, Unlisted>
     ensures names { IfOk result (λ v. names_of v.items ≡ texts_of names.now) }
     ensures failed { IfErr result (IsUnlisted (texts_of names.now)) }

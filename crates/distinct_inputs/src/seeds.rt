@@ -13,9 +13,9 @@ use keys_sketches::TextReader;
 use sketch_base::{ErrorKind, compute_seed_hash};
 use std::alloc::Global;
 
-/// The seed of a command: the number that `--seed` names, or that its file has, with blanks around it allowed. It fails
-/// with `ZeroSeed` only for a number whose seed hash is 0, with `NoSeed` or `Unreadable` only for a file, and if memory is
-/// refused.
+/// The seed of a command: the number that `--seed` names, or that its file has, with blanks around it allowed. It
+/// fails with `ZeroSeed` only for a number whose seed hash is 0, with `NoSeed` or `Unreadable` only for a file, and
+/// if memory is refused.
 pub fn seed_of(rt: &HostRuntime, options: &Options<'_>) -> Result<u64, Failure>
     ensures seeded { IfOk result (λ seed. seed_hash seed ≢ 0) }
     ensures number { IfOk result (IsSeedOf (options_of options.now).seed) }
@@ -30,8 +30,8 @@ pub fn seed_of(rt: &HostRuntime, options: &Options<'_>) -> Result<u64, Failure>
     }
 }
 
-/// The seed that the bytes of a seed file spell: decimal digits alone, with blanks around them allowed, of a number below
-/// 2^64 whose seed hash isn't 0.
+/// The seed that the bytes of a seed file spell: decimal digits alone, with blanks around them allowed, of a number
+/// below 2^64 whose seed hash isn't 0.
 fn seed_in(bytes: &[u8]) -> Option<u64>
     ensures { result ≡ seed_in bytes.now }
 {
@@ -41,8 +41,8 @@ fn seed_in(bytes: &[u8]) -> Option<u64>
     }
 }
 
-/// The seed that the bytes spell that a reader has left, which has this name in messages. It fails with `NoSeed` only if
-/// they spell none.
+/// The seed that the bytes spell that a reader has left, which has this name in messages. It fails with `NoSeed` only
+/// if they spell none.
 pub fn seed_from<R: TextReader>(alloc: Global, name: &str, reader: &mut R) -> Result<u64, Failure>
     ensures seed { IfSome (R.remaining reader.old) (λ bytes. IfOk result (λ seed. seed_in bytes ≡ Some seed)) }
     ensures seeded { IfOk result (λ seed. seed_hash seed ≢ 0) }

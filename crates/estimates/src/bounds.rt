@@ -5,8 +5,8 @@ ghost use Rattle.estimates.specs.Bounds.{deviation_count, ceil_sqrt, count_bound
 
 use core_laws::MAX_THETA;
 
-/// How many standard deviations the bounds allow. If hashes are random, the true count is within the bounds in about 68, 95
-/// and 99.7 of 100 sketches; that isn't proved.
+/// How many standard deviations the bounds allow. If hashes are random, the true count is within the bounds in about
+/// 68, 95 and 99.7 of 100 sketches; that isn't proved.
 #[derive(Debug, Clone, Copy, PartialEq, Eq)]
 pub enum Deviations {
     One,
@@ -44,9 +44,10 @@ fn ceil_sqrt(number: u128) -> u128
     if root * root < number { root + 1 } else { root }
 }
 
-/// Bounds of the number of distinct values that a sketch has seen, by its retained entries, fewer than 2^32, and its theta,
-/// from 1 to `MAX_THETA`: the ends of the Wilson score interval, rounded outwards. The lower bound is at least the number
-/// of retained entries. Both are that number if theta is `MAX_THETA`; pass `MAX_THETA` for an empty sketch.
+/// Bounds of the number of distinct values that a sketch has seen, by its retained entries, fewer than 2^32, and its
+/// theta, from 1 to `MAX_THETA`: the ends of the Wilson score interval, rounded outwards. The lower bound is at least
+/// the number of retained entries. Both are that number if theta is `MAX_THETA`; pass `MAX_THETA` for an empty
+/// sketch.
 pub fn count_bounds(retained: usize, theta: u64, deviations: Deviations) -> Interval
     requires limited { retained < 2 ^ 32 }
     requires low { 0 < theta }

@@ -12,7 +12,8 @@ pub fn root_is_least()
 {}
 
 /// Each count that is near, and at least the number of retained entries, is within the bounds. A count is near
-/// (`IsNear`) if the number of retained entries is within z standard deviations of the number that is expected for it.
+/// (`IsNear`) if the number of retained entries is within z standard deviations of the number that is expected for
+/// it.
 pub fn near_is_within()
     ensures lower { (z r t n : ℕ) → 0 < t → r ≤ n → IsNear z r t n → (count_bounds z r t).lower ≤ n }
     ensures upper { (z r t n : ℕ) → 0 < t → IsNear z r t n → n ≤ (count_bounds z r t).upper }
@@ -27,14 +28,22 @@ pub fn near_for_more()
 /// premise, a theta of at least half the sum of the roots, holds for estimates up to 8 * 10^9 from 16 entries, and up
 /// to 10^11 from 4096.
 pub fn inside_is_near()
-    ensures { (z r t n : ℕ) → 0 < t → root_sum z r t ≤ 2 * t → (count_bounds z r t).lower + 2 ≤ n → n + 2 ≤ (count_bounds z r t).upper → IsNear z r t n }
+    ensures { (z r t n : ℕ)
+        → 0 < t
+        → root_sum z r t ≤ 2 * t
+        → (count_bounds z r t).lower + 2 ≤ n
+        → n + 2 ≤ (count_bounds z r t).upper
+        → IsNear z r t n }
 {}
 
 /// The estimate is within the bounds, as a fraction and rounded to the nearest whole number.
 pub fn estimate_is_within()
     ensures from_lower { (z r t : ℕ) → 0 < t → t ≤ MAX_THETA → (count_bounds z r t).lower * t ≤ r * MAX_THETA }
     ensures to_upper { (z r t : ℕ) → 0 < t → r * MAX_THETA ≤ (count_bounds z r t).upper * t }
-    ensures from_lower_rounded { (z r t : ℕ) → 0 < t → t ≤ MAX_THETA → (count_bounds z r t).lower ≤ nearest (r * MAX_THETA) t }
+    ensures from_lower_rounded { (z r t : ℕ)
+        → 0 < t
+        → t ≤ MAX_THETA
+        → (count_bounds z r t).lower ≤ nearest (r * MAX_THETA) t }
     ensures to_upper_rounded { (z r t : ℕ) → 0 < t → nearest (r * MAX_THETA) t ≤ (count_bounds z r t).upper }
 {}
 
@@ -48,7 +57,8 @@ pub fn exact_is_its_bounds()
     ensures { (z r : ℕ) → count_bounds z r MAX_THETA ≡ record { lower = r; upper = r } }
 {}
 
-/// Below a smaller theta the upper bound is above the number of retained entries, so it is above 0 if none is retained.
+/// Below a smaller theta the upper bound is above the number of retained entries, so it is above 0 if none is
+/// retained.
 pub fn upper_is_above_retained()
     ensures { (z r t : ℕ) → 0 < z → 0 < t → t < MAX_THETA → r < (count_bounds z r t).upper }
 {}

@@ -26,7 +26,8 @@ fn sketch_of(alloc: Global, names: &[&str]) -> Result<ThetaSketch, Error>
 
 /// The visitors of both days: of the hashes that both days have, exactly those below its theta.
 fn returning(alloc: Global, first: &[&str], second: &[&str]) -> Result<CompactThetaSketch, Error>
-    ensures { IfOk result (λ s. s.entries ≡ set_below s.theta (shared_hashes (day_hashes first.now) (day_hashes second.now))) }
+    ensures { IfOk result (λ s.
+        s.entries ≡ set_below s.theta (shared_hashes (day_hashes first.now) (day_hashes second.now))) }
 {
     let one = sketch_of(alloc, first)?;
     let two = sketch_of(alloc, second)?;

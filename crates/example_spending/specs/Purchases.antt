@@ -2,7 +2,8 @@
 use Rattle.std.specs.Prelude.{ℕ, ◌^◌, ◌++◌, List, map, flat_map}
 use Rattle.std.specs.Borrow.{Bor}
 use Rattle.std.specs.Hash.{str}
-use Rattle.tuple_sketches.specs.Streams.{TupleEntry, Union, IsUnionOf, given_sums, value_hash, MAX_THETA, DEFAULT_UPDATE_SEED}
+use Rattle.tuple_sketches.specs.Streams.{TupleEntry, Union, IsUnionOf, given_sums, value_hash, MAX_THETA}
+use Rattle.tuple_sketches.specs.Streams.{DEFAULT_UPDATE_SEED}
 
 -- the hash of a customer's name
 abbrev pub customer_hash : List ℕ → ℕ

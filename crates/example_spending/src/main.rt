@@ -31,8 +31,8 @@ fn add_day(
     Ok(())
 }
 
-/// What customers spent on all days: the 2^14 least hashes of their names, each with the sum of its amounts, and as theta
-/// the next.
+/// What customers spent on all days: the 2^14 least hashes of their names, each with the sum of its amounts, and as
+/// theta the next.
 fn spent(alloc: Global, days: &[&[(&str, u64)]]) -> Result<CompactTupleSketch<u64>, Error>
     ensures { IfOk result (λ s. retained_of s ≡ least_sums (2 ^ 14) (all_amounts days.now) MAX_THETA) }
 {

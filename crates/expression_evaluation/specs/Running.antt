@@ -1,5 +1,6 @@
 -- Steps run on a stack, and when an evaluation is refused.
-use Rattle.std.specs.Prelude.{ℕ, ◌≡◌, ◌==◌, ◌||◌, ◌&&◌, ◌⊎◌, min, Bool, true, is_none, is_some, if◌then◌else◌, List, [], ◌∷◌, map, slice_get, Option, Some, None, option_map}
+use Rattle.std.specs.Prelude.{ℕ, ◌≡◌, ◌==◌, ◌||◌, ◌&&◌, ◌⊎◌, min, Bool, true, is_none, is_some, if◌then◌else◌, List}
+use Rattle.std.specs.Prelude.{[], ◌∷◌, map, slice_get, Option, Some, None, option_map}
 use Rattle.std.specs.List.{AllByRecursion, list_all}
 use Rattle.sketch_base.specs.Seed.{seed_hash}
 use Rattle.sketch_base.specs.declared.error.ErrorKind.{ErrorKind}
@@ -73,7 +74,9 @@ BothHaveSeed seed a b = (a.seed_hash ≡ seed_hash seed) × (b.seed_hash ≡ see
 
 -- a sketch of a seed is the ordered one of two others combined
 abbrev pub IsCombination : {X : Type 0} → Rules X → (lg_k seed : ℕ) → Operator → (a b combined : Compact X) → Type 0
-IsCombination rules lg_k seed operator a b combined = IsAnswer rules.key (applied rules lg_k operator (compact_value rules.key a) (compact_value rules.key b)) (seed_hash seed) true combined
+IsCombination rules lg_k seed operator a b combined =
+    IsAnswer rules.key (applied rules lg_k operator (compact_value rules.key a) (compact_value rules.key b))
+    (seed_hash seed) true combined
 
 -- whether a sketch is empty or of this seed hash
 abbrev pub is_accepted : {X : Type 0} → (seed_hash : ℕ) → Compact X → Bool
@@ -86,7 +89,10 @@ are_accepted read h sketches = list_all (λ s. is_accepted h (read s)) sketches
 -- the refusal of an evaluation: settings out of range, a sketch of another seed, or steps without one result
 abbrev pub refusal_by : {S X : Type 0} → Rules X → (read : S → Compact X) → (seed lg_k : ℕ) → List Step → List S → Option ErrorKind
 refusal_by rules read seed lg_k steps sketches =
-    if is_none (settings_refusal lg_k MAX_THETA seed) && are_accepted read (seed_hash seed) sketches && is_some (result_of rules lg_k (values_by rules read sketches) steps) then None else Some InvalidArgument
+    if is_none (settings_refusal lg_k MAX_THETA seed) && are_accepted read (seed_hash seed) sketches && is_some
+    (result_of rules lg_k (values_by rules read sketches) steps)
+    then None
+    else Some InvalidArgument
 
 -- .. of theta sketches, and of sketches of sums
 abbrev pub evaluation_refusal : (seed lg_k : ℕ) → List Step → List (Compact ℕ) → Option ErrorKind

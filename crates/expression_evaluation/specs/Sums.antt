@@ -22,4 +22,7 @@ IsRefusedJoin u (NonEmpty v) = IsMergeRefused tuple_key is_too_great (below tupl
 abbrev pub HasPartOf : {P : Type 0} → Union (TupleEntry ℕ) P → Sketch (TupleEntry ℕ) → Type 0
 HasPartOf u Empty = u.content.entries ≡ []
 HasPartOf u (NonEmpty v) =
-    (u.content.theta ≤ v.theta) × ((q : ℕ) (x : TupleEntry ℕ) → entry_at tuple_key u.content.entries q ≡ Some x → entry_at tuple_key v.entries q ≡ Some x)
+    (u.content.theta ≤ v.theta)
+    × ((q : ℕ) (x : TupleEntry ℕ)
+    → entry_at tuple_key u.content.entries q ≡ Some x
+    → entry_at tuple_key v.entries q ≡ Some x)

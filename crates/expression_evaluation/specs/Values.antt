@@ -43,7 +43,8 @@ applied rules lg_k Difference a b = minus rules.key rules.key a b
 abbrev pub expression_value : {X : Type 0} → Rules X → (lg_k : ℕ) → List (Sketch X) → Expression → Sketch X
 expression_value rules lg_k values (Named i) = get_or values i Empty
 expression_value rules lg_k values (Grouped e) = expression_value rules lg_k values e
-expression_value rules lg_k values (Combined op a b) = applied rules lg_k op (expression_value rules lg_k values a) (expression_value rules lg_k values b)
+expression_value rules lg_k values (Combined op a b) =
+    applied rules lg_k op (expression_value rules lg_k values a) (expression_value rules lg_k values b)
 
 -- two whole maps applied: their union, intersection or difference
 abbrev pub combined_maps : {X : Type 0} → Rules X → Operator → List X → List X → List X

@@ -9,7 +9,9 @@ ghost use Rattle.core_laws.specs.declared.TheConstants.{MAX_THETA};
 ghost use Rattle.expression_text.specs.Expressions.{Expression, postfix, HasIndicesBelow};
 ghost use Rattle.expression_text.specs.declared.operator.Step.TheVariants.{Combine};
 ghost use Rattle.expression_evaluation.specs.Values.{expression_value, expression_whole};
-ghost use Rattle.expression_evaluation.specs.Running.{value_by, values_by, after_step, values_onto, AreOrderedSketches, are_accepted, refusal_by, IsStepRefused, IsEvaluationError, MayRefuseStep, MayRefuse};
+ghost use Rattle.expression_evaluation.specs.Running.{value_by, values_by, after_step, values_onto};
+ghost use Rattle.expression_evaluation.specs.Running.{AreOrderedSketches, are_accepted, refusal_by, IsStepRefused};
+ghost use Rattle.expression_evaluation.specs.Running.{IsEvaluationError, MayRefuseStep, MayRefuse};
 
 use crate::family::SetFamily;
 use core_laws::{MAX_LG_K, MIN_LG_K};
@@ -114,8 +116,8 @@ fn run_step<F: SetFamily<A, B>, A: Allocator, B: Allocator>(
 /// Evaluates the steps of an expression over one sketch per name, in postfix order. The result is ordered. A union
 /// retains at most 2^`lg_k` entries. The result of a name alone is its sketch, with all its entries.
 ///
-/// Refused with `InvalidArgument` if `lg_k` isn't from 4 to 26 or the seed's hash is 0; if a sketch that isn't empty is
-/// of another seed, even if no step takes it; and if the steps aren't those of one expression over these sketches.
+/// Refused with `InvalidArgument` if `lg_k` isn't from 4 to 26 or the seed's hash is 0; if a sketch that isn't empty
+/// is of another seed, even if no step takes it; and if the steps aren't those of one expression over these sketches.
 /// Refused with `OutOfMemory`, and with `Policy` only if the family may refuse a merge of two entries of one key in a
 /// union or an intersection.
 pub fn evaluate_in<F: SetFamily<A, B>, A: Allocator + Clone, B: Allocator>(

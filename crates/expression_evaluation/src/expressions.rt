@@ -9,7 +9,8 @@ ghost use Rattle.core_slots.specs.Entry.{tuple_key};
 ghost use Rattle.core_slots.specs.declared.entry.TupleEntry.{TupleEntry};
 ghost use Rattle.expression_text.specs.Expressions.{Expression, postfix, HasIndicesBelow};
 ghost use Rattle.expression_evaluation.specs.Values.{hashes_value, set_of, sum_rules, sums_value, whole_sums_in};
-ghost use Rattle.expression_evaluation.specs.Running.{values_of, sums_values, evaluation_refusal, sums_refusal, IsEvaluationError, MayRefuse};
+ghost use Rattle.expression_evaluation.specs.Running.{values_of, sums_values, evaluation_refusal, sums_refusal};
+ghost use Rattle.expression_evaluation.specs.Running.{IsEvaluationError, MayRefuse};
 
 use crate::evaluation::evaluate_in;
 use crate::sums::SumSets;
@@ -23,11 +24,11 @@ use tuple_sketches::CompactTupleSketch;
 /// Evaluates the steps of an expression over one sketch per name, in postfix order. The result is ordered. A union
 /// retains at most 2^`lg_k` hashes. The result of a name alone is its sketch, with all its hashes.
 ///
-/// If each sketch retains exactly the hashes of its whole stream below its theta, the result retains exactly the hashes
-/// of the same expression of the whole streams below the result's theta.
+/// If each sketch retains exactly the hashes of its whole stream below its theta, the result retains exactly the
+/// hashes of the same expression of the whole streams below the result's theta.
 ///
-/// Refused with `InvalidArgument` if `lg_k` isn't from 4 to 26 or the seed's hash is 0; if a sketch that isn't empty is
-/// of another seed, even if no step takes it; and if the steps aren't those of one expression over these sketches.
+/// Refused with `InvalidArgument` if `lg_k` isn't from 4 to 26 or the seed's hash is 0; if a sketch that isn't empty
+/// is of another seed, even if no step takes it; and if the steps aren't those of one expression over these sketches.
 /// Refused with `OutOfMemory`. Nothing else is refused.
 pub fn evaluate<A: Allocator + Clone + Drop, B: Allocator>(
     alloc: A,
@@ -51,14 +52,14 @@ pub fn evaluate<A: Allocator + Clone + Drop, B: Allocator>(
 }
 
 /// Evaluates the steps of an expression over one sketch of sums per name, in postfix order. In a union and an
-/// intersection the sums of a key are added; a difference keeps the sums of its first operand. The result is ordered. A
-/// union retains at most 2^`lg_k` keys. The result of a name alone is its sketch, with all its keys.
+/// intersection the sums of a key are added; a difference keeps the sums of its first operand. The result is ordered.
+/// A union retains at most 2^`lg_k` keys. The result of a name alone is its sketch, with all its keys.
 ///
 /// If each sketch retains exactly the keys of its whole stream below its theta, with their sums, the result retains
 /// exactly the keys of the same expression of the whole streams below the result's theta, with their sums.
 ///
-/// Refused with `InvalidArgument` if `lg_k` isn't from 4 to 26 or the seed's hash is 0; if a sketch that isn't empty is
-/// of another seed, even if no step takes it; and if the steps aren't those of one expression over these sketches.
+/// Refused with `InvalidArgument` if `lg_k` isn't from 4 to 26 or the seed's hash is 0; if a sketch that isn't empty
+/// is of another seed, even if no step takes it; and if the steps aren't those of one expression over these sketches.
 /// Refused with `OutOfMemory`; and with `Policy` only if the sums of some key that both operands of a union or an
 /// intersection have are 2^64 or more together. So no sum in a result has wrapped.
 pub fn evaluate_sums<A: Allocator + Clone + Drop, B: Allocator>(

@@ -6,14 +6,15 @@ ghost use Rattle.core_laws.specs.Refusal.{Refuses};
 ghost use Rattle.core_laws.specs.Settings.{settings_refusal};
 ghost use Rattle.core_laws.specs.declared.TheConstants.{MAX_THETA};
 ghost use Rattle.core_operators.specs.Intersection.{seed_refusal};
-ghost use Rattle.expression_evaluation.specs.Running.{is_accepted, value_by, BothHaveSeed, IsCombination, IsMergeError, MayRefuseTwo};
+ghost use Rattle.expression_evaluation.specs.Running.{is_accepted, value_by, BothHaveSeed, IsCombination};
+ghost use Rattle.expression_evaluation.specs.Running.{IsMergeError, MayRefuseTwo};
 
 use expression_text::Operator;
 use sketch_base::Error;
 use std::alloc::Allocator;
 
-/// A family of compact sketches: how a named sketch is read, and how two are combined. Named sketches are in memory of
-/// `B`, results in memory of `A`.
+/// A family of compact sketches: how a named sketch is read, and how two are combined. Named sketches are in memory
+/// of `B`, results in memory of `A`.
 pub trait SetFamily<A: Allocator, B: Allocator> {
     /// A retained entry.
     type Entry;
@@ -42,11 +43,12 @@ pub trait SetFamily<A: Allocator, B: Allocator> {
     fn ordered(&self, alloc: A, seed: u64, sketch: &Self::Named) -> Result<Self::Sketch, Error>
         requires seeded { seed_refusal seed ≡ None }
         requires accepted { is_accepted (seed_hash seed) (named sketch.now) ≡ true }
-        ensures value { IfOk result (λ s. IsAnswer rules.key (value_by rules named sketch.now) (seed_hash seed) true (listed s)) }
+        ensures value { IfOk result (λ s.
+            IsAnswer rules.key (value_by rules named sketch.now) (seed_hash seed) true (listed s)) }
         ensures refused { Refuses result None true };
 
-    /// Two sketches of this seed combined, ordered. A union has 2^`lg_k` nominal entries. Refused with `OutOfMemory`, or
-    /// with `Policy` if the family refuses to merge two entries of one key below the lesser theta.
+    /// Two sketches of this seed combined, ordered. A union has 2^`lg_k` nominal entries. Refused with `OutOfMemory`,
+    /// or with `Policy` if the family refuses to merge two entries of one key below the lesser theta.
     fn combined(
         &self,
         alloc: A,
@@ -58,7 +60,8 @@ pub trait SetFamily<A: Allocator, B: Allocator> {
     ) -> Result<Self::Sketch, Error>
         requires settings { settings_refusal lg_k MAX_THETA seed ≡ None }
         requires seeds { BothHaveSeed seed (listed first.now) (listed second.now) }
-        ensures value { IfOk result (λ s. IsCombination rules lg_k seed operator (listed first.now) (listed second.now) (listed s)) }
+        ensures value { IfOk result (λ s.
+            IsCombination rules lg_k seed operator (listed first.now) (listed second.now) (listed s)) }
         ensures refused { IfErr result (IsMergeError (
             MayRefuseTwo rules operator (value_by rules listed first.now) (value_by rules listed second.now))) };
 

@@ -14,7 +14,8 @@ ghost use Rattle.core_slots.specs.declared.entry.TupleEntry.{TupleEntry};
 ghost use Rattle.expression_text.specs.declared.operator.Operator.TheVariants.{Union, Intersection};
 ghost use Rattle.expression_evaluation.specs.Sums.{IsRefusedMeet, IsRefusedJoin, HasPartOf};
 ghost use Rattle.expression_evaluation.specs.Values.{sum_added, sum_rules};
-ghost use Rattle.expression_evaluation.specs.Running.{is_accepted, BothHaveSeed, AreRefused, IsCombination, IsMergeError};
+ghost use Rattle.expression_evaluation.specs.Running.{is_accepted, BothHaveSeed, AreRefused, IsCombination};
+ghost use Rattle.expression_evaluation.specs.Running.{IsMergeError};
 
 use crate::family::SetFamily;
 use core_policies::DefaultUnionPolicy;

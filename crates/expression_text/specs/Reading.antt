@@ -1,5 +1,6 @@
 -- The state between two tokens: what is pending, and the operand after it.
-use Rattle.std.specs.Prelude.{ℕ, ◌≡◌, ◌<◌, ◌≤◌, ◌+◌, ◌||◌, Bool, true, false, if◌then◌else◌, List, [], ◌∷◌, ◌++◌, length, get_or, map}
+use Rattle.std.specs.Prelude.{ℕ, ◌≡◌, ◌<◌, ◌≤◌, ◌+◌, ◌||◌, Bool, true, false, if◌then◌else◌, List, [], ◌∷◌, ◌++◌}
+use Rattle.std.specs.Prelude.{length, get_or, map}
 use Rattle.std.specs.Str.{bytes_eq}
 use Rattle.expression_text.specs.declared.operator.Operator.{Operator}
 use Rattle.expression_text.specs.declared.operator.Step.{Step}
@@ -8,7 +9,8 @@ use Rattle.expression_text.specs.declared.parsing.Pending.TheVariants.{Group, Si
 use Rattle.expression_text.specs.declared.parsing.Reading.{Reading}
 use Rattle.expression_text.specs.Expressions.{Expression, postfix, HasIndicesBelow}
 use Rattle.expression_text.specs.Grammar.{tokens_of, names_in, strength, level, IsBound, depth, most_levels}
-use Rattle.expression_text.specs.Tokens.{Lexeme, name, sign, opening, closing, IsAfterBlanks, IsText, IsToken, NoBlankFirst}
+use Rattle.expression_text.specs.Tokens.{Lexeme, name, sign, opening, closing, IsAfterBlanks, IsText, IsToken}
+use Rattle.expression_text.specs.Tokens.{NoBlankFirst}
 
 -- names have this name at an index
 pub record HasName (names : List (List ℕ)) (word : List ℕ) (i : ℕ) : Type 0 where
@@ -98,7 +100,8 @@ pub record WantsOperand (tokens : List Lexeme) (names : List (List ℕ)) (pendin
   pub limited : open_groups frames ≤ most_levels
 
 -- tokens that end with an operand, which is bound together at least this tightly
-pub record HasOperand (least : ℕ) (tokens : List Lexeme) (names : List (List ℕ)) (pending : List Pending) (steps : List Step) (levels : ℕ) : Type 0 where
+pub record HasOperand (least : ℕ) (tokens : List Lexeme) (names : List (List ℕ)) (pending : List Pending)
+    (steps : List Step) (levels : ℕ) : Type 0 where
   pub frames : List Frame
   pub tree : Expression
   pub around : AreAround names pending levels frames
@@ -110,12 +113,19 @@ pub record HasOperand (least : ℕ) (tokens : List Lexeme) (names : List (List �
   pub steps_are : steps ≡ steps_before frames ++ postfix tree
 
 -- and no pending operator binds at least as tightly
-pub record IsSettled (least : ℕ) (tokens : List Lexeme) (names : List (List ℕ)) (pending : List Pending) (steps : List Step) (levels : ℕ) : Type 0 where
+pub record IsSettled (least : ℕ) (tokens : List Lexeme) (names : List (List ℕ)) (pending : List Pending)
+    (steps : List Step) (levels : ℕ) : Type 0 where
   pub has : HasOperand least tokens names pending steps levels
   pub settled : LacksSign least pending
 
 -- the state after tokens
-abbrev pub IsReading : (tokens : List Lexeme) → (names : List (List ℕ)) → (pending : List Pending) → (steps : List Step) → (levels : ℕ) → (after_operand : Bool) → Type 0
+abbrev pub IsReading : (tokens : List Lexeme)
+    → (names : List (List ℕ))
+    → (pending : List Pending)
+    → (steps : List Step)
+    → (levels : ℕ)
+    → (after_operand : Bool)
+    → Type 0
 IsReading tokens names pending steps levels true = HasOperand 3 tokens names pending steps levels
 IsReading tokens names pending steps levels false = WantsOperand tokens names pending steps levels
 
@@ -145,7 +155,8 @@ pub record EndsWith (text : List ℕ) (tokens all : List Lexeme) : Type 0 where
   pub is_text : IsText more text
 
 -- the tokens of a text up to a rest that begins with no blank
-pub record HasRead (text rest : List ℕ) (names : List (List ℕ)) (pending : List Pending) (steps : List Step) (levels : ℕ) (after_operand : Bool) : Type 0 where
+pub record HasRead (text rest : List ℕ) (names : List (List ℕ)) (pending : List Pending) (steps : List Step)
+    (levels : ℕ) (after_operand : Bool) : Type 0 where
   pub tokens : List Lexeme
   pub before : List ℕ
   pub blanks : IsAfterBlanks before rest

@@ -1,6 +1,7 @@
 //! The syntax of set expressions over names, such as `(a & b) - c`.
 //!
-//! `parse` reads an expression into the names that it has and its steps, in postfix order. It knows nothing of sketches.
+//! `parse` reads an expression into the names that it has and its steps, in postfix order. It knows nothing of
+//! sketches.
 //!
 //! ```
 //! let parsed = parse(alloc, b"(mon + tue) - wed")?;

@@ -1,8 +1,11 @@
 //! Reads an expression, token by token.
-ghost use Rattle.std.specs.Prelude.{◌≡◌, ◌≢◌, ◌++◌, ◌∷◌, ◌<◌, ◌≤◌, ℕ, [], List, map, false, length, IfOk, IfErr, IfSome, IfNone, OnOk, MatchOption};
+ghost use Rattle.std.specs.Prelude.{◌≡◌, ◌≢◌, ◌++◌, ◌∷◌, ◌<◌, ◌≤◌, ℕ, [], List, map, false, length, IfOk, IfErr};
+ghost use Rattle.std.specs.Prelude.{IfSome, IfNone, OnOk, MatchOption};
 ghost use Rattle.expression_text.specs.Grammar.{strength, IsExpressionText, SpellsNothing};
-ghost use Rattle.expression_text.specs.Tokens.{Lexeme, name, sign, opening, closing, lexeme_of, IsText, IsToken, NoBlankFirst};
-ghost use Rattle.expression_text.specs.Reading.{HasName, has_name, IsIndexed, HasOperand, IsSettled, LacksSign, HasTokens, CanFollow, NothingFollows, CanEnd};
+ghost use Rattle.expression_text.specs.Tokens.{Lexeme, name, sign, opening, closing, lexeme_of, IsText, IsToken};
+ghost use Rattle.expression_text.specs.Tokens.{NoBlankFirst};
+ghost use Rattle.expression_text.specs.Reading.{HasName, has_name, IsIndexed, HasOperand, IsSettled, LacksSign};
+ghost use Rattle.expression_text.specs.Reading.{HasTokens, CanFollow, NothingFollows, CanEnd};
 ghost use Rattle.expression_text.specs.declared.parsing.Pending.TheVariants.{Sign};
 ghost use Rattle.expression_text.specs.declared.fault.Reason.TheVariants.{Memory};
 
@@ -108,7 +111,8 @@ fn index_of<A: Allocator + Clone + Drop>(
     names: &mut Vec<Vec<u8, A>, A>,
     word: &[u8],
 ) -> Result<usize, Reason>
-    ensures index { IfOk result (IsIndexed (map (λ v. v.items) names.old.items) (map (λ v. v.items) names.new.items) word.now) }
+    ensures index { IfOk result
+        (IsIndexed (map (λ v. v.items) names.old.items) (map (λ v. v.items) names.new.items) word.now) }
     ensures memory { IfErr result (λ reason. reason ≡ Memory) }
 {
     if let Some(index) = place_of(names, word) {
@@ -124,7 +128,9 @@ fn index_of<A: Allocator + Clone + Drop>(
 impl<A: Allocator + Clone + Drop> Reading<A> {
     /// Reads a name.
     fn put_name(&mut self, alloc: A, word: &[u8]) -> Result<(), Reason>
-        ensures reads { (tokens : List Lexeme) → HasTokens tokens self.old → OnOk result (HasTokens (tokens ++ name word.now ∷ []) self.new) }
+        ensures reads { (tokens : List Lexeme)
+            → HasTokens tokens self.old
+            → OnOk result (HasTokens (tokens ++ name word.now ∷ []) self.new) }
         ensures refused { IfErr result (λ reason.
             reason ≢ Memory → CanFollow self.old.levels self.old.after_operand (name word.now) → ⊥) }
     {
@@ -139,7 +145,9 @@ impl<A: Allocator + Clone + Drop> Reading<A> {
 
     /// Reads an operator.
     fn put_sign(&mut self, operator: Operator) -> Result<(), Reason>
-        ensures reads { (tokens : List Lexeme) → HasTokens tokens self.old → OnOk result (HasTokens (tokens ++ sign operator ∷ []) self.new) }
+        ensures reads { (tokens : List Lexeme)
+            → HasTokens tokens self.old
+            → OnOk result (HasTokens (tokens ++ sign operator ∷ []) self.new) }
         ensures refused { IfErr result (λ reason.
             reason ≢ Memory → CanFollow self.old.levels self.old.after_operand (sign operator) → ⊥) }
     {
@@ -154,7 +162,9 @@ impl<A: Allocator + Clone + Drop> Reading<A> {
 
     /// Reads an opening parenthesis.
     fn open(&mut self) -> Result<(), Reason>
-        ensures reads { (tokens : List Lexeme) → HasTokens tokens self.old → OnOk result (HasTokens (tokens ++ opening ∷ []) self.new) }
+        ensures reads { (tokens : List Lexeme)
+            → HasTokens tokens self.old
+            → OnOk result (HasTokens (tokens ++ opening ∷ []) self.new) }
         ensures refused { IfErr result (λ reason.
             reason ≢ Memory → CanFollow self.old.levels self.old.after_operand opening → ⊥) }
     {
@@ -171,7 +181,9 @@ impl<A: Allocator + Clone + Drop> Reading<A> {
 
     /// Reads a closing parenthesis.
     fn close(&mut self) -> Result<(), Reason>
-        ensures reads { (tokens : List Lexeme) → HasTokens tokens self.old → OnOk result (HasTokens (tokens ++ closing ∷ []) self.new) }
+        ensures reads { (tokens : List Lexeme)
+            → HasTokens tokens self.old
+            → OnOk result (HasTokens (tokens ++ closing ∷ []) self.new) }
         ensures refused { (tokens : List Lexeme) → HasTokens tokens self.old
             → IfErr result (λ reason. reason ≢ Memory → CanFollow self.old.levels self.old.after_operand closing → ⊥) }
     {
@@ -191,9 +203,12 @@ impl<A: Allocator + Clone + Drop> Reading<A> {
 
     /// Reads a token.
     fn put(&mut self, alloc: A, token: Token<'_>) -> Result<(), Reason>
-        ensures reads { (tokens : List Lexeme) → HasTokens tokens self.old → OnOk result (HasTokens (tokens ++ lexeme_of token.entry ∷ []) self.new) }
+        ensures reads { (tokens : List Lexeme)
+            → HasTokens tokens self.old
+            → OnOk result (HasTokens (tokens ++ lexeme_of token.entry ∷ []) self.new) }
         ensures refused { (tokens : List Lexeme) → HasTokens tokens self.old
-            → IfErr result (λ reason. reason ≢ Memory → CanFollow self.old.levels self.old.after_operand (lexeme_of token.entry) → ⊥) }
+            → IfErr result (λ reason.
+            reason ≢ Memory → CanFollow self.old.levels self.old.after_operand (lexeme_of token.entry) → ⊥) }
     {
         match token {
             Token::Name(word) => self.put_name(alloc, word),
@@ -203,8 +218,8 @@ impl<A: Allocator + Clone + Drop> Reading<A> {
         }
     }
 
-    /// Reads the token at the front of a text, which doesn't begin with a blank. Returns the text after it, and `None` if
-    /// the text is empty.
+    /// Reads the token at the front of a text, which doesn't begin with a blank. Returns the text after it, and
+    /// `None` if the text is empty.
     fn put_first<'a>(&mut self, alloc: &A, text: &'a [u8]) -> Result<Option<&'a [u8]>, Reason>
         ensures token { (tokens : List Lexeme)
             → HasTokens tokens self.old
@@ -214,7 +229,8 @@ impl<A: Allocator + Clone + Drop> Reading<A> {
         ensures shorter { IfOk result (λ o. IfSome o (λ rest. length rest.now < length text.now)) }
         ensures some { IfErr result (λ reason. reason ≢ Memory → text.now ≢ []) }
         ensures refused { (tokens : List Lexeme) → HasTokens tokens self.old → NoBlankFirst text.now
-            → IfErr result (λ reason. reason ≢ Memory → NothingFollows self.old.levels self.old.after_operand text.now) }
+            → IfErr result (λ reason.
+            reason ≢ Memory → NothingFollows self.old.levels self.old.after_operand text.now) }
     {
         match first_token(text)? {
             None => Ok(None),
@@ -227,7 +243,8 @@ impl<A: Allocator + Clone + Drop> Reading<A> {
 
     /// Reads all tokens of a text.
     fn put_all(&mut self, alloc: &A, text: &[u8]) -> Result<(), SyntaxFault>
-        ensures tokens { HasTokens [] self.old → OnOk result ((tokens : List Lexeme) × IsText tokens text.now × HasTokens tokens self.new) }
+        ensures tokens { HasTokens [] self.old
+            → OnOk result ((tokens : List Lexeme) × IsText tokens text.now × HasTokens tokens self.new) }
         ensures fault { IfErr result (λ f. f.offset ≤ length text.now) }
         ensures unspelled { HasTokens [] self.old → IfErr result (λ f. f.reason ≢ Memory → SpellsNothing text.now) }
     {

@@ -1,6 +1,8 @@
 //! The tokens of a text.
-ghost use Rattle.std.specs.Prelude.{◌≡◌, ◌≢◌, ◌<◌, ◌++◌, ◌∷◌, ℕ, [], length, slice_index, IfOk, IfErr, IfSome, IfNone, MatchOption};
-ghost use Rattle.expression_text.specs.Tokens.{is_blank, is_word_byte, IsAfterBlanks, IsSplitWord, IsToken, HasNoByte, LacksToken, BeginsWord, NoBlankFirst, lexeme_of};
+ghost use Rattle.std.specs.Prelude.{◌≡◌, ◌≢◌, ◌<◌, ◌++◌, ◌∷◌, ℕ, [], length, slice_index, IfOk, IfErr, IfSome};
+ghost use Rattle.std.specs.Prelude.{IfNone, MatchOption};
+ghost use Rattle.expression_text.specs.Tokens.{is_blank, is_word_byte, IsAfterBlanks, IsSplitWord, IsToken};
+ghost use Rattle.expression_text.specs.Tokens.{HasNoByte, LacksToken, BeginsWord, NoBlankFirst, lexeme_of};
 
 use crate::fault::Reason;
 use crate::operator::Operator;

@@ -1,5 +1,7 @@
 -- Groups of images in lines, and their unions.
-use Rattle.std.specs.Prelude.{ℕ, ◌≡◌, ◌≤◌, ◌⊎◌, ◌+◌, ◌-◌, ◌^◌, nat_lt, min, ⊤, Bool, true, false, List, [], ◌∷◌, ◌++◌, map, Option, Some, None, IfSome, Vec, length, flat_map, unwrap_or, if◌then◌else◌}
+use Rattle.std.specs.Prelude.{ℕ, ◌≡◌, ◌≤◌, ◌⊎◌, ◌+◌, ◌-◌, ◌^◌, nat_lt, min, ⊤, Bool, true, false, List, [], ◌∷◌}
+use Rattle.std.specs.Prelude.{◌++◌, map, Option, Some, None, IfSome, Vec, length, flat_map, unwrap_or}
+use Rattle.std.specs.Prelude.{if◌then◌else◌}
 use Rattle.std.specs.List.{filter, AllByRecursion}
 use Rattle.std.specs.Option.{option_map_or}
 use Rattle.std.specs.List.Sorted.{IsStrictlySortedBy}

@@ -44,10 +44,10 @@ fn spell(text: &mut Vec<u8>, byte: u8) -> Result<(), AllocError>
     Ok(())
 }
 
-/// The name of the file of a group: each byte of the group's name, as it is if it is an ASCII letter, a digit, `-`, `.`
-/// or `_`, otherwise as `%` and two lowercase hexadecimal digits; then the ending `.theta`. The file of the group with
-/// the empty name is `%.theta`. Groups of different names have files of different names (`laws::files_apart`). The only
-/// error is `AllocError`.
+/// The name of the file of a group: each byte of the group's name, as it is if it is an ASCII letter, a digit, `-`,
+/// `.` or `_`, otherwise as `%` and two lowercase hexadecimal digits; then the ending `.theta`. The file of the group
+/// with the empty name is `%.theta`. Groups of different names have files of different names (`laws::files_apart`).
+/// The only error is `AllocError`.
 pub fn file_name(alloc: Global, name: &[u8]) -> Result<Vec<u8>, AllocError>
     ensures { IfOk result (λ v. v.items ≡ file_name name.now) }
 {

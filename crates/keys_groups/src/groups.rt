@@ -122,8 +122,8 @@ impl Groups {
         self
     }
 
-    /// Takes out the first group of those that are left, or returns `None` if none is. Refused only with `OutOfMemory`;
-    /// the group is then dropped.
+    /// Takes out the first group of those that are left, or returns `None` if none is. Refused only with
+    /// `OutOfMemory`; the group is then dropped.
     pub fn next_group(&mut self) -> Result<Option<Group>, Error>
         ensures next { (grouping : Grouping) (lines names : List (List ℕ))
             → AreLeft grouping lines names self.old

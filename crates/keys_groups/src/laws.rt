@@ -10,9 +10,9 @@ ghost use Rattle.keys_groups.specs.declared.groups.Grouping.{Grouping};
 
 use theta_sketches::laws::{one_reading, read_again};
 
-/// If each text has the groups of the lines of some sources, with their sketches of at least the union's nominal entries,
-/// then the groups of all texts, united, are the groups of the lines of all sources, with their sketches: sketching by
-/// groups in parts and uniting by groups gives the same bytes as sketching by groups at once.
+/// If each text has the groups of the lines of some sources, with their sketches of at least the union's nominal
+/// entries, then the groups of all texts, united, are the groups of the lines of all sources, with their sketches:
+/// sketching by groups in parts and uniting by groups gives the same bytes as sketching by groups at once.
 pub fn groups_unite()
     ensures { (grouping : Grouping) (sources : List (List (List ℕ))) (texts : List (List ℕ)) (out : List ℕ)
         → settings_refusal grouping.lg_k MAX_THETA grouping.hashing.seed ≡ None

@@ -1,7 +1,7 @@
 //! Lines in groups, by a field, and a sketch for each group.
 //!
-//! The promise is that of `group_sources`: the groups are exactly those of the lines, each once and in ascending order,
-//! and each has the sketch of its own lines. The groups are in a balanced tree, so a line is added in time
+//! The promise is that of `group_sources`: the groups are exactly those of the lines, each once and in ascending
+//! order, and each has the sketch of its own lines. The groups are in a balanced tree, so a line is added in time
 //! logarithmic in their number.
 //!
 //! ```

@@ -48,12 +48,13 @@ fn joined_texts(alloc: Global, groups: &[Ranked]) -> Result<Vec<u8>, AllocError>
     Ok(text)
 }
 
-/// The texts of groups in the order of their estimates, the greatest first, and of equal estimates in the ascending order
-/// of the bytes of their names. The only error is `AllocError`.
+/// The texts of groups in the order of their estimates, the greatest first, and of equal estimates in the ascending
+/// order of the bytes of their names. The only error is `AllocError`.
 pub fn ranked_text(alloc: Global, groups: Vec<Ranked>) -> Result<Vec<u8>, AllocError>
     ensures { (estimate : List ℕ → ℕ) (text : List ℕ → List ℕ) (names : List (List ℕ))
         → HasTexts estimate text names groups.items
-        → IfOk result (λ v. (ordered : List (List ℕ)) × AreRanked estimate names ordered × (v.items ≡ flat_map text ordered)) }
+        → IfOk result (λ v.
+        (ordered : List (List ℕ)) × AreRanked estimate names ordered × (v.items ≡ flat_map text ordered)) }
 {
     let mut groups = groups;
     sort_groups(&mut groups);

@@ -18,8 +18,8 @@ use std::io::{BufRead, BufReader, Read};
 
 /// Watches while lines are put into groups.
 pub trait GroupWatch {
-    /// Called after each line, which has `bytes` bytes without its LF, when there are `groups` groups. The numbers are for
-    /// display: no clause speaks of them.
+    /// Called after each line, which has `bytes` bytes without its LF, when there are `groups` groups. The numbers
+    /// are for display: no clause speaks of them.
     fn saw_line(&mut self, bytes: usize, groups: usize);
 }
 
@@ -61,7 +61,8 @@ fn add_lines<R: TextReader + Drop, W: GroupWatch>(
     requires settled { settings_refusal grouping.lg_k MAX_THETA grouping.hashing.seed ≡ None }
     ensures lines { (before : List (List ℕ))
         → IsGrouped grouping before groups.old.map
-        → IfSome (R.remaining reader) (λ text. OnOk result (IsGrouped grouping (before ++ lines_of text) groups.new.map)) }
+        → IfSome (R.remaining reader) (λ text.
+        OnOk result (IsGrouped grouping (before ++ lines_of text) groups.new.map)) }
     ensures refused { RefusesRead result None }
     ensures fallible { IfErr result (FailsIf R.may_fail) }
 {
@@ -84,12 +85,13 @@ fn add_lines<R: TextReader + Drop, W: GroupWatch>(
     Err(Unread::Refused(Error::from(AllocError)))
 }
 
-/// The groups of the lines of all texts, each text cut into lines by itself: a last line without an LF isn't joined to the
-/// next text. Each group has the sketch of its own lines.
+/// The groups of the lines of all texts, each text cut into lines by itself: a last line without an LF isn't joined
+/// to the next text. Each group has the sketch of its own lines.
 ///
 /// Refused with `InvalidArgument` only for an `lg_k` that isn't from 4 to 26 or a seed whose seed hash is 0, and with
-/// `OutOfMemory`. If a source fails, or can't be opened, its error is returned: only if sources may fail, so never for
-/// texts in memory. For a wrong `lg_k` or seed nothing is read; no clause says so. It allocates memory for the longest line, and for the name and the sketch of each group.
+/// `OutOfMemory`. If a source fails, or can't be opened, its error is returned: only if sources may fail, so never
+/// for texts in memory. For a wrong `lg_k` or seed nothing is read; no clause says so. It allocates memory for the
+/// longest line, and for the name and the sketch of each group.
 pub fn group_sources<S: Sources, W: GroupWatch>(
     alloc: Global,
     grouping: Grouping,

@@ -11,7 +11,8 @@ ghost use Rattle.core_operators.specs.Union.{empty_union};
 ghost use Rattle.theta_sketches.specs.Image.{IsReadable};
 ghost use Rattle.keys_groups.specs.Tabs.{has_tab, before_tab, behind_tab};
 ghost use Rattle.keys_groups.specs.United.{image_line, image_in, IsUniting, AreReady, UpdatesUnion, BeginsUnion};
-ghost use Rattle.keys_groups.specs.United.{AreUnited, HasUnions, AreSound, IsNextUnited, is_followed, IsNotOneImage, IsNotAdded, IsFlawless};
+ghost use Rattle.keys_groups.specs.United.{AreUnited, HasUnions, AreSound, IsNextUnited, is_followed};
+ghost use Rattle.keys_groups.specs.United.{IsNotOneImage, IsNotAdded, IsFlawless};
 
 use crate::tabs::cut_last;
 use keys_sketches::{
@@ -90,8 +91,8 @@ fn small_union(alloc: Global, seed: u64, lg_k: u8) -> Result<ThetaUnion, Error>
         .build(alloc)
 }
 
-/// Refuses settings that no union has: with `InvalidArgument` an `lg_k` that isn't from 4 to 26 or a seed whose seed hash
-/// is 0, and with `OutOfMemory`.
+/// Refuses settings that no union has: with `InvalidArgument` an `lg_k` that isn't from 4 to 26 or a seed whose seed
+/// hash is 0, and with `OutOfMemory`.
 pub(crate) fn check_union(alloc: Global, seed: u64, lg_k: u8) -> Result<(), Error>
     ensures refused { Refuses result (settings_refusal lg_k MAX_THETA seed) true }
 {
@@ -210,8 +211,8 @@ impl UnitedGroups {
         self.begin(alloc, seed, lg_k, name, image)
     }
 
-    /// Unites the image of a line into the group of the line. It fails if memory is refused, or the line isn't that of a
-    /// group with one image of this seed.
+    /// Unites the image of a line into the group of the line. It fails if memory is refused, or the line isn't that
+    /// of a group with one image of this seed.
     pub(crate) fn add_line(
         &mut self,
         alloc: Global,
@@ -224,7 +225,9 @@ impl UnitedGroups {
         ensures uniting { (lines : List (List ℕ))
             → IsUniting seed lg_k lines self.old.map
             → OnOk result (IsUniting seed lg_k (lines ++ line.now ∷ []) self.new.map) }
-        ensures flawless { (lines : List (List ℕ)) → IsUniting seed lg_k lines self.old.map → OnOk result (IsFlawless seed line.now) }
+        ensures flawless { (lines : List (List ℕ))
+            → IsUniting seed lg_k lines self.old.map
+            → OnOk result (IsFlawless seed line.now) }
         ensures ready { OnOk result (AreReady seed self.new.map) }
         ensures most { OnOk result (self.new.most ≡ max self.old.most (entry_count (image_in line.now))) }
         ensures failed { IfErr result (IsNotAdded seed line.now) }
@@ -259,8 +262,8 @@ impl UnitedGroups {
         self
     }
 
-    /// Takes out the first group of those that are left, or returns `None` if none is. Refused only with `OutOfMemory`;
-    /// the group is then dropped.
+    /// Takes out the first group of those that are left, or returns `None` if none is. Refused only with
+    /// `OutOfMemory`; the group is then dropped.
     pub fn next_group(&mut self) -> Result<Option<UnitedGroup>, Error>
         requires sound { AreSound self.old }
         ensures next { (seed lg_k : ℕ) (lines names : List (List ℕ))

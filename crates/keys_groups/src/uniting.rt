@@ -5,7 +5,8 @@ ghost use Rattle.core_laws.specs.Refusal.{Refuses};
 ghost use Rattle.core_laws.specs.Settings.{settings_refusal};
 ghost use Rattle.core_laws.specs.declared.TheConstants.{MAX_THETA};
 ghost use Rattle.keys_lines.specs.Lines.{lines_of, lines_of_all};
-ghost use Rattle.keys_groups.specs.United.{IsNotAdded, IsUniting, AreReady, AreAdded, HasUnions, AreSound, AreUnited, AreUnitedLines};
+ghost use Rattle.keys_groups.specs.United.{IsNotAdded, IsUniting, AreReady, AreAdded, HasUnions, AreSound};
+ghost use Rattle.keys_groups.specs.United.{AreUnited, AreUnitedLines};
 ghost use Rattle.keys_groups.specs.United.{FailsIf, IsOfLine, IsOfLines, ReportsFirst, IsUnunited};
 ghost use Rattle.keys_groups.specs.United.{AreSketchedTexts, IsSketchedText};
 ghost use Rattle.keys_groups.specs.declared.groups.Grouping.{Grouping};
@@ -107,16 +108,17 @@ fn add_lines<R: TextReader + Drop>(
     Err(Ununited::Refused(Error::from(AllocError)))
 }
 
-/// The groups of the lines of all texts, each with the union of its images: a line has the name of its group, a tab, and
-/// an image of this seed in hexadecimal digits. A name may have tabs, since the last tab of a line counts. Each text is
-/// cut into lines by itself, and may have none.
+/// The groups of the lines of all texts, each with the union of its images: a line has the name of its group, a tab,
+/// and an image of this seed in hexadecimal digits. A name may have tabs, since the last tab of a line counts. Each
+/// text is cut into lines by itself, and may have none.
 ///
-/// If the texts are those that `sketch --by` writes of files that were sketched apart, by one key, with this seed and at
-/// least this `lg_k`, the unions are the sketches of the groups of all their lines (`laws::groups_unite`).
+/// If the texts are those that `sketch --by` writes of files that were sketched apart, by one key, with this seed and
+/// at least this `lg_k`, the unions are the sketches of the groups of all their lines (`laws::groups_unite`).
 ///
 /// Refused with `InvalidArgument` only for an `lg_k` that isn't from 4 to 26 or a seed whose seed hash is 0, and with
-/// `OutOfMemory`. If a source fails, or can't be opened, its error is returned: only if sources may fail, so never for
-/// texts in memory. For a wrong `lg_k` or seed nothing is read; no clause says so. A flaw is returned only for the first line that has one, with its number in its text.
+/// `OutOfMemory`. If a source fails, or can't be opened, its error is returned: only if sources may fail, so never
+/// for texts in memory. For a wrong `lg_k` or seed nothing is read; no clause says so. A flaw is returned only for
+/// the first line that has one, with its number in its text.
 pub fn unite_groups<S: Sources>(
     alloc: Global,
     seed: u64,
@@ -143,9 +145,9 @@ pub fn unite_groups<S: Sources>(
     Err(Ununited::Refused(Error::from(AllocError)))
 }
 
-/// The lines of groups, one after another: the name of each, a tab, and the image of its union in hexadecimal digits. If
-/// the images are those of groups that were sketched in parts, these are the lines of the groups of all parts, byte for
-/// byte. Refused only with `OutOfMemory`.
+/// The lines of groups, one after another: the name of each, a tab, and the image of its union in hexadecimal digits.
+/// If the images are those of groups that were sketched in parts, these are the lines of the groups of all parts,
+/// byte for byte. Refused only with `OutOfMemory`.
 pub fn united_text(alloc: Global, groups: &mut UnitedGroups) -> Result<Vec<u8>, Error>
     requires sound { AreSound groups.old }
     ensures text { (seed lg_k : ℕ) (lines names : List (List ℕ))

@@ -92,8 +92,8 @@ fn hash_two_lines(hashing: Hashing, text: &[u8]) -> Option<(u64, u64, &[u8])>
     ))
 }
 
-/// Hashes the keys of the first lines of a text that end in an LF, in order, into `hashes`: of all such lines, or of as
-/// many as there is room for. Returns their number and the text after the last of them. Each hash has 63 bits.
+/// Hashes the keys of the first lines of a text that end in an LF, in order, into `hashes`: of all such lines, or of
+/// as many as there is room for. Returns their number and the text after the last of them. Each hash has 63 bits.
 pub fn hash_lines<'a>(hashing: Hashing, text: &'a [u8], hashes: &mut [u64]) -> (usize, &'a [u8])
     ensures limited { result.0 ≤ length hashes.old }
     ensures lines { AreHashesOfLines hashing text.now (take result.0 hashes.new) result.1.now }

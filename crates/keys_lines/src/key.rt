@@ -11,8 +11,8 @@ ghost use Rattle.keys_lines.specs.declared.key.Key.TheVariants.{Field};
 pub enum Key {
     /// The whole line.
     Line,
-    /// The field after this many others, where this byte separates fields. A line without the separator is its own key,
-    /// and the key of a line with fewer fields is empty, as `cut -f` writes them.
+    /// The field after this many others, where this byte separates fields. A line without the separator is its own
+    /// key, and the key of a line with fewer fields is empty, as `cut -f` writes them.
     Field(u32, u8),
 }
 

@@ -48,14 +48,18 @@ impl OpenLine {
 
     /// Whether it has a byte.
     pub fn is_begun(&self) -> bool
-        ensures { (hashing : Hashing) (front : List ℕ) → IsOpen hashing front self.now → result ≡ not (length front == 0) }
+        ensures { (hashing : Hashing) (front : List ℕ)
+            → IsOpen hashing front self.now
+            → result ≡ not (length front == 0) }
     {
         self.begun
     }
 
     /// The hash of its key, of 63 bits.
     pub fn hash(&self) -> u64
-        ensures { (hashing : Hashing) (front : List ℕ) → IsOpen hashing front self.now → result ≡ line_hash hashing front }
+        ensures { (hashing : Hashing) (front : List ℕ)
+            → IsOpen hashing front self.now
+            → result ≡ line_hash hashing front }
     {
         self.open_key.hash()
     }

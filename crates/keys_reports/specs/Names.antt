@@ -1,5 +1,6 @@
 -- Names as they are written in a line of text and in JSON: texts of which each character is spelled by characters.
-use Rattle.std.specs.Prelude.{ℕ, ◌/◌, ◌%◌, ◌==◌, ◌||◌, ◌++◌, nat_lt, List, [], ◌∷◌, chars, codes, encode_utf8_all, flat_map, if◌then◌else◌}
+use Rattle.std.specs.Prelude.{ℕ, ◌/◌, ◌%◌, ◌==◌, ◌||◌, ◌++◌, nat_lt, List, [], ◌∷◌, chars, codes, encode_utf8_all}
+use Rattle.std.specs.Prelude.{flat_map, if◌then◌else◌}
 use Rattle.std.specs.Char.{is_control, digit_char}
 use Rattle.std.specs.Char.Escape.{escape_default}
 

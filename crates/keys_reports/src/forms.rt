@@ -1,7 +1,8 @@
 //! The lines that are written of a report. Each ends in an LF. The only error is `AllocError`.
 ghost use Rattle.std.specs.Prelude.{◌≡◌, ◌++◌, IfOk, OnOk, string_bytes};
 ghost use Rattle.std.specs.Option.{option_map};
-ghost use Rattle.keys_reports.specs.Forms.{count_line, json_fields, json_head, json_line, shown_estimate, shown_line, tsv_head, tsv_name, tsv_row};
+ghost use Rattle.keys_reports.specs.Forms.{count_line, json_fields, json_head, json_line, shown_estimate};
+ghost use Rattle.keys_reports.specs.Forms.{shown_line, tsv_head, tsv_name, tsv_row};
 ghost use Rattle.keys_reports.specs.Names.{escaped_name};
 
 use crate::names::{escaped_name, put_json_string};
@@ -40,8 +41,8 @@ fn put_estimate<A: Allocator>(line: &mut String<A>, report: Report) -> Result<()
     }
 }
 
-/// The line that shows a report under a name, whose control characters are escaped: the estimate, its bounds unless it is
-/// exact, the number of retained entries, and theta.
+/// The line that shows a report under a name, whose control characters are escaped: the estimate, its bounds unless
+/// it is exact, the number of retained entries, and theta.
 pub fn shown_line<A: Allocator>(
     alloc: A,
     name: &str,
@@ -58,8 +59,8 @@ pub fn shown_line<A: Allocator>(
     Ok(line)
 }
 
-/// The first line of a table of reports: the names of its columns, separated by tabs, with `name` in front if its rows
-/// are named.
+/// The first line of a table of reports: the names of its columns, separated by tabs, with `name` in front if its
+/// rows are named.
 pub fn tsv_head<A: Allocator>(alloc: A, named: bool) -> Result<String<A>, AllocError>
     ensures { IfOk result (λ text. string_bytes text ≡ tsv_head named) }
 {
@@ -85,8 +86,8 @@ fn row_name<A: Allocator>(alloc: A, name: Option<&str>) -> Result<String<A>, All
     Ok(text)
 }
 
-/// The row of a report in a table: its values in the order of `tsv_head`, separated by tabs, after the name if there is
-/// one. Control characters of the name are escaped, tabs too.
+/// The row of a report in a table: its values in the order of `tsv_head`, separated by tabs, after the name if there
+/// is one. Control characters of the name are escaped, tabs too.
 pub fn tsv_row<A: Allocator>(
     alloc: A,
     name: Option<&str>,

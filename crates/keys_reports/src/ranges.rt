@@ -18,7 +18,8 @@ fn range_text<A: Allocator>(alloc: A, least: u128, greatest: u128) -> Result<Str
     }
 }
 
-/// The line of the values that occur from `least` to `greatest` times, both included: these numbers, and the line of a count.
+/// The line of the values that occur from `least` to `greatest` times, both included: these numbers, and the line of
+/// a count.
 pub fn range_line<A: Allocator + Clone>(
     alloc: A,
     with_bounds: bool,

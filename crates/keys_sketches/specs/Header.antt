@@ -1,12 +1,14 @@
 -- What the preamble of an image says: the image's length, its number of hashes, and why bytes are not read.
-use Rattle.std.specs.Prelude.{ℕ, ◌≡◌, ◌≤◌, ◌+◌, ◌*◌, ◌==◌, ◌&&◌, ◌||◌, not, nat_lt, nat_le, Bool, ⊤, List, length, take, slice_index, Option, Some, None, if◌then◌else◌}
+use Rattle.std.specs.Prelude.{ℕ, ◌≡◌, ◌≤◌, ◌+◌, ◌*◌, ◌==◌, ◌&&◌, ◌||◌, not, nat_lt, nat_le, Bool, ⊤, List, length}
+use Rattle.std.specs.Prelude.{take, slice_index, Option, Some, None, if◌then◌else◌}
 use Rattle.core_compact.specs.CompactState.{Compact}
 use Rattle.core_images.specs.Preamble.{is_empty, has_bit, seed_hash_at, count_at, theta_at}
 use Rattle.core_laws.specs.declared.TheConstants.{MAX_THETA}
 use Rattle.theta_sketches.specs.Image.{Reads}
 use Rattle.keys_sketches.specs.Hex.{are_digits}
 use Rattle.keys_sketches.specs.declared.header.Flaw.{Flaw}
-use Rattle.keys_sketches.specs.declared.header.Flaw.TheVariants.{Hexadecimal, Short, Family, Version, BigEndian, Seed, Cut, Longer, Damaged}
+use Rattle.keys_sketches.specs.declared.header.Flaw.TheVariants.{Hexadecimal, Short, Family, Version, BigEndian}
+use Rattle.keys_sketches.specs.declared.header.Flaw.TheVariants.{Seed, Cut, Longer, Damaged}
 
 -- the first three bytes of an image: the count of its preamble longs, its version and its family
 abbrev pub longs_at : List ℕ → ℕ

@@ -40,7 +40,9 @@ IsAmong line (other ∷ lines) = (line ≡ other) ⊎ IsAmong line lines
 
 -- both have the same lines, in any order and with any repeats
 abbrev pub HaveSameLines : (lines others : List (List ℕ)) → Type 0
-HaveSameLines lines others = ((line : List ℕ) → IsAmong line lines → IsAmong line others) × ((line : List ℕ) → IsAmong line others → IsAmong line lines)
+HaveSameLines lines others =
+    ((line : List ℕ) → IsAmong line lines → IsAmong line others)
+    × ((line : List ℕ) → IsAmong line others → IsAmong line lines)
 
 -- the image of lines
 abbrev pub image_of_lines : Hashing → (lg_k : ℕ) → List (List ℕ) → List ℕ
@@ -64,7 +66,11 @@ new_state seed lg_k = record { map = empty_table lg_k MAX_THETA seed; empty = tr
 
 -- the state after one more line, and after more lines
 abbrev pub with_line : Hashing → LineState → List ℕ → LineState
-with_line hashing s line = record { map = record s.map { kept = after_upsert hash_key (2 ^ s.map.lg_nom) (line_hash hashing line) (hash_step (line_hash hashing line)) s.map.kept }; empty = false }
+with_line hashing s line =
+    record {
+      map = record s.map { kept = after_upsert hash_key (2 ^ s.map.lg_nom) (line_hash hashing line) (hash_step (line_hash hashing line)) s.map.kept };
+      empty = false;
+    }
 
 abbrev pub with_lines : Hashing → LineState → List (List ℕ) → LineState
 with_lines hashing s [] = s

@@ -32,7 +32,9 @@ first_refusal None later = later
 -- the refusal of sketches that are intersected one after another
 abbrev pub meet_refusal : (seed : ℕ) → Option (Sketch ℕ) → List (Compact ℕ) → Option ErrorKind
 meet_refusal seed so_far [] = None
-meet_refusal seed so_far (s ∷ sketches) = first_refusal (one_refusal seed so_far s) (meet_refusal seed (Some (meet_next hash_key first_hash so_far (compact_value hash_key s))) sketches)
+meet_refusal seed so_far (s ∷ sketches) =
+    first_refusal (one_refusal seed so_far s)
+    (meet_refusal seed (Some (meet_next hash_key first_hash so_far (compact_value hash_key s))) sketches)
 
 -- the refusal of an intersection: of its seed, or of one of its sketches
 abbrev pub refusal_of_intersection : (seed : ℕ) → List (Compact ℕ) → Option ErrorKind
@@ -40,4 +42,6 @@ refusal_of_intersection seed sketches = first_refusal (seed_refusal seed) (meet_
 
 -- the refusal of a difference: of its seed, or of one of its sketches
 abbrev pub refusal_of_difference : (seed : ℕ) → (first second : Compact ℕ) → Option ErrorKind
-refusal_of_difference seed first second = first_refusal (seed_refusal seed) (difference_refusal (seed_hash seed) (shown_of hash_key first) (shown_of hash_key second))
+refusal_of_difference seed first second =
+    first_refusal (seed_refusal seed)
+    (difference_refusal (seed_hash seed) (shown_of hash_key first) (shown_of hash_key second))

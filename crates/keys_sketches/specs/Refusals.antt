@@ -1,5 +1,6 @@
 -- Why lines and images are not read.
-use Rattle.std.specs.Prelude.{ℕ, ◌≡◌, ◌≢◌, ◌⊎◌, ⊤, Bool, true, List, ◌∷◌, ◌++◌, Option, Some, None, IfSome, Result, MatchResult}
+use Rattle.std.specs.Prelude.{ℕ, ◌≡◌, ◌≢◌, ◌⊎◌, ⊤, Bool, true, List, ◌∷◌, ◌++◌, Option, Some, None, IfSome, Result}
+use Rattle.std.specs.Prelude.{MatchResult}
 use Rattle.std.specs.IoError.{error_kind}
 use Rattle.std.specs.declared.io.ErrorKind.TheVariants.{Interrupted}
 use Rattle.sketch_base.specs.Seed.{seed_hash}
@@ -64,5 +65,8 @@ IsImageFailure merge_refusal Fault (Failed error) = ⊤
 
 -- images are not united: by a refusal before any is read, or because one is not read
 abbrev pub IsUniteRefusal : (seed : ℕ) → Option ErrorKind → Option (List (List ℕ)) → Unread → Type 0
-IsUniteRefusal seed refusal images (Refused kind) = (refusal ≡ Some kind) ⊎ (kind ≡ OutOfMemory) ⊎ ((kind ≡ InvalidData) × (refusal ≡ None) × IfSome images (HasNoImage seed))
+IsUniteRefusal seed refusal images (Refused kind) =
+    (refusal ≡ Some kind)
+    ⊎ (kind ≡ OutOfMemory)
+    ⊎ ((kind ≡ InvalidData) × (refusal ≡ None) × IfSome images (HasNoImage seed))
 IsUniteRefusal seed refusal images (Failed error) = refusal ≡ None

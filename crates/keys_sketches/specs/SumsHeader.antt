@@ -1,6 +1,7 @@
 -- What the preamble of an image of sums says: the image's length, its number of sums, and why bytes are not read. An entry has
 -- eight bytes for its hash and eight for its sum, and both versions have flags.
-use Rattle.std.specs.Prelude.{ℕ, ◌+◌, ◌*◌, ◌==◌, ◌&&◌, ◌||◌, not, nat_le, Bool, List, length, slice_index, Option, Some, None, if◌then◌else◌}
+use Rattle.std.specs.Prelude.{ℕ, ◌+◌, ◌*◌, ◌==◌, ◌&&◌, ◌||◌, not, nat_le, Bool, List, length, slice_index, Option}
+use Rattle.std.specs.Prelude.{Some, None, if◌then◌else◌}
 use Rattle.core_images.specs.Preamble.{is_empty, has_bit, seed_hash_at, count_at}
 use Rattle.keys_sketches.specs.Header.{longs_at, version_at, family_at, has_longs, first_flaw, flaw_by_length}
 use Rattle.keys_sketches.specs.declared.header.Flaw.{Flaw}
@@ -20,7 +21,9 @@ sums_preamble_length bytes = if is_empty bytes then 8 else 8 * longs_at bytes
 
 -- whether the bytes begin with a whole preamble
 abbrev pub has_sums_preamble : List ℕ → Bool
-has_sums_preamble bytes = nat_le 8 (length bytes) && (has_longs bytes && (has_sums_version bytes && nat_le (sums_preamble_length bytes) (length bytes)))
+has_sums_preamble bytes =
+    nat_le 8 (length bytes)
+    && (has_longs bytes && (has_sums_version bytes && nat_le (sums_preamble_length bytes) (length bytes)))
 
 -- the number of sums after a whole preamble: a single long means one
 abbrev pub announced_sums : List ℕ → ℕ

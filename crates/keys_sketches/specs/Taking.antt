@@ -7,7 +7,9 @@ use Rattle.keys_sketches.specs.Keys.{LineState, with_lines}
 -- A piece leads from a state and an open line to another state and another open line: with any continuation of the
 -- text, both give the same.
 abbrev pub Takes : Hashing → (old : LineState) (front piece : List ℕ) (new : LineState) (left : List ℕ) → Type 0
-Takes hashing old front piece new left = (more : List ℕ) → with_lines hashing old (lines_after front (piece ++ more)) ≡ with_lines hashing new (lines_after left more)
+Takes hashing old front piece new left =
+    (more : List ℕ)
+    → with_lines hashing old (lines_after front (piece ++ more)) ≡ with_lines hashing new (lines_after left more)
 
 -- Some first lines of a piece are inserted, and the rest of the piece is left: with any continuation, the piece's lines are
 -- these and then those of the rest.

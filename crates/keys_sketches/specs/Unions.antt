@@ -26,7 +26,10 @@ pub record HasUnited {P : Type 0} (seed lg_k : ℕ) (images : List (List ℕ)) (
 
 -- the image of the union of the sketches in images
 abbrev pub IsUnitedImage : (seed lg_k : ℕ) → (images : List (List ℕ)) → List ℕ → Type 0
-IsUnitedImage seed lg_k images bytes = (sketches : List (Compact ℕ)) × AreRead seed images sketches × (bytes ≡ written (sketch_of_value seed (united lg_k (values_of_sketches sketches))))
+IsUnitedImage seed lg_k images bytes =
+    (sketches : List (Compact ℕ))
+    × AreRead seed images sketches
+    × (bytes ≡ written (sketch_of_value seed (united lg_k (values_of_sketches sketches))))
 
 -- for images of texts that were sketched apart, by one key, with this seed and at least this lg_k, it is the image of all
 -- their lines, in any order

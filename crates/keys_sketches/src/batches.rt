@@ -46,12 +46,13 @@ pub trait SketchUnion<A: Allocator>: Drop {
     /// How many entries a sketch retains.
     fn retained(sketch: &Self::Sketch) -> usize;
 
-    /// The greatest summary of a sketch; 0 if it has none, or if no policy combines them. If those of all sketches are below
-    /// 2^64 together, they can be merged.
+    /// The greatest summary of a sketch; 0 if it has none, or if no policy combines them. If those of all sketches
+    /// are below 2^64 together, they can be merged.
     fn greatest(sketch: &Self::Sketch) -> u64;
 
-    /// Merges sketches of this seed. If the union has not failed, it is refused only with `OutOfMemory`, and with `Policy`
-    /// if the union's policy may refuse to merge summaries. What the union has after a refusal is unspecified.
+    /// Merges sketches of this seed. If the union has not failed, it is refused only with `OutOfMemory`, and with
+    /// `Policy` if the union's policy may refuse to merge summaries. What the union has after a refusal is
+    /// unspecified.
     fn merge(&mut self, alloc: A, sketches: &[Self::Sketch]) -> Result<(), Error>
         ensures united { (seed lg_k : ℕ) (first others : List (List ℕ))
             → has_united seed lg_k first self.old
@@ -64,15 +65,15 @@ pub trait SketchUnion<A: Allocator>: Drop {
         ensures ready { (seed : ℕ) → is_ready seed self.old → OnOk result (is_ready seed self.new) };
 }
 
-/// A union, and sketches that wait to be merged into it together. `update_all` takes a fraction of the time of one `update`
-/// each.
+/// A union, and sketches that wait to be merged into it together. `update_all` takes a fraction of the time of one
+/// `update` each.
 ///
-/// They wait until they are 64, or have more than 2^17 entries together. So at most 2^17 entries and one more sketch wait
-/// in memory: beside that sketch, 1 MB of hashes, or 2 MB if each hash has a summary of 64 bits.
+/// They wait until they are 64, or have more than 2^17 entries together. So at most 2^17 entries and one more sketch
+/// wait in memory: beside that sketch, 1 MB of hashes, or 2 MB if each hash has a summary of 64 bits.
 ///
-/// A policy that refuses sums of 2^64 or more refuses one only if the image that was added last made it so large: if the
-/// greatest summaries of all sketches are 2^64 or more together, what waits is merged before another image is added.
-/// No clause says this, or how many sketches wait.
+/// A policy that refuses sums of 2^64 or more refuses one only if the image that was added last made it so large: if
+/// the greatest summaries of all sketches are 2^64 or more together, what waits is merged before another image is
+/// added. No clause says this, or how many sketches wait.
 #[derive(Drop)]
 pub struct Batch<U: SketchUnion<A>, A: Allocator> {
     union: U,
@@ -89,7 +90,9 @@ impl<U: SketchUnion<A>, A: Allocator + Clone + Drop> Batch<U, A> {
         ensures united { (seed lg_k : ℕ) (images : List (List ℕ))
             → U.has_united seed lg_k images union
             → HasRead (U.has_united seed lg_k) (U.reads seed) images result.union result.waiting.items }
-        ensures ready { (seed : ℕ) → U.is_ready seed union → IsReadyFor (U.is_ready seed) (U.reads seed) result.union result.waiting.items }
+        ensures ready { (seed : ℕ)
+            → U.is_ready seed union
+            → IsReadyFor (U.is_ready seed) (U.reads seed) result.union result.waiting.items }
     {
         Batch {
             union,
@@ -119,7 +122,8 @@ impl<U: SketchUnion<A>, A: Allocator + Clone + Drop> Batch<U, A> {
         Ok(())
     }
 
-    /// The union, once the sketches that wait are merged. If the union has not failed, it is refused only as a merge is.
+    /// The union, once the sketches that wait are merged. If the union has not failed, it is refused only as a merge
+    /// is.
     pub fn into_union(mut self) -> Result<U, Error>
         ensures united { (seed lg_k : ℕ) (images : List (List ℕ))
             → HasRead (U.has_united seed lg_k) (U.reads seed) images self.union self.waiting.items
@@ -139,7 +143,8 @@ impl<U: SketchUnion<A>, A: Allocator + Clone + Drop> Batch<U, A> {
 impl<U: SketchUnion<A>, A: Allocator + Clone + Drop> ImageUnion for Batch<U, A> {
     ghost use Rattle.keys_sketches.specs.Batches.{HasRead, IsReadyFor};
 
-    ghost has_united = { λ seed lg_k images b. HasRead (U.has_united seed lg_k) (U.reads seed) images b.union b.waiting.items };
+    ghost has_united = { λ seed lg_k images b.
+        HasRead (U.has_united seed lg_k) (U.reads seed) images b.union b.waiting.items };
 
     ghost is_ready = { λ seed b. IsReadyFor (U.is_ready seed) (U.reads seed) b.union b.waiting.items };
 

@@ -1,14 +1,17 @@
 //! What the preamble of an image says: how long the image is, how many hashes it has, and why bytes are not read. The
 //! rules are those of `CompactThetaSketch::deserialize_with_seed`.
 ghost use Rattle.std.specs.Prelude.{◌≡◌, ◌≤◌, ◌*◌, true, length};
-ghost use Rattle.keys_sketches.specs.Header.{version_at, has_longs, has_version, is_flagged_empty, preamble_length, has_preamble, is_single, announced_count, image_length, entry_count, is_vacant_image, checks_seed, flaw_by_length, flaw_of_preamble, flaw_of};
+ghost use Rattle.keys_sketches.specs.Header.{version_at, has_longs, has_version, is_flagged_empty, preamble_length};
+ghost use Rattle.keys_sketches.specs.Header.{has_preamble, is_single, announced_count, image_length, entry_count};
+ghost use Rattle.keys_sketches.specs.Header.{is_vacant_image, checks_seed, flaw_by_length, flaw_of_preamble};
+ghost use Rattle.keys_sketches.specs.Header.{flaw_of};
 
 use crate::hex::are_digits;
 use core_images::{count_at, seed_hash_at, theta_at};
 use core_laws::MAX_THETA;
 
-/// Why bytes are not the image of one theta sketch, or of one sketch of sums, under a seed: the first reason that applies, in
-/// this order.
+/// Why bytes are not the image of one theta sketch, or of one sketch of sums, under a seed: the first reason that
+/// applies, in this order.
 #[derive(Clone, Copy, Debug, PartialEq, Eq)]
 pub enum Flaw {
     /// They begin with 16 hexadecimal digits, of either case.
@@ -106,8 +109,8 @@ fn announced_count(bytes: &[u8]) -> u32
     }
 }
 
-/// The length in bytes of the image that the bytes begin, by its preamble: from 8 to 24 + 8 * (2^32 - 1). `None` if it
-/// isn't known: there are fewer than eight bytes, or fewer than the preamble has, or there aren't 1 to 3 preamble
+/// The length in bytes of the image that the bytes begin, by its preamble: from 8 to 24 + 8 * (2^32 - 1). `None` if
+/// it isn't known: there are fewer than eight bytes, or fewer than the preamble has, or there aren't 1 to 3 preamble
 /// longs, or the version isn't 1, 2 or 3. The family is not checked.
 ///
 /// Bytes that are read as a sketch have at least this length, and their prefix of this length is read as the same
@@ -122,7 +125,8 @@ pub fn image_length(bytes: &[u8]) -> Option<u64>
     }
 }
 
-/// How many hashes the image that the bytes begin has, by its preamble: below 2^32, and 0 if `image_length` is `None`.
+/// How many hashes the image that the bytes begin has, by its preamble: below 2^32, and 0 if `image_length` is
+/// `None`.
 ///
 /// Bytes that are read as a sketch have exactly this many hashes (`laws::entries_counted`).
 pub fn entry_count(bytes: &[u8]) -> u64

@@ -22,8 +22,8 @@ pub fn put_byte<A: Allocator>(line: &mut Vec<u8, A>, byte: u8) -> Result<(), All
     Ok(())
 }
 
-/// Bytes as a line of lowercase hexadecimal digits, two per byte, with the LF that ends it. The only error is `AllocError`.
-/// `read_hex` reads the digits without the LF.
+/// Bytes as a line of lowercase hexadecimal digits, two per byte, with the LF that ends it. The only error is
+/// `AllocError`. `read_hex` reads the digits without the LF.
 pub fn hex_line<A: Allocator>(alloc: A, bytes: &[u8]) -> Result<Vec<u8, A>, AllocError>
     ensures { IfOk result (λ v. v.items ≡ hex_of bytes.now ++ 10 ∷ []) }
 {
@@ -79,7 +79,8 @@ pub fn read_hex<A: Allocator + Drop>(
     alloc: A,
     text: &[u8],
 ) -> Result<Option<Vec<u8, A>>, AllocError>
-    ensures { IfOk result (λ o. MatchOption o (bytes_of_hex text.now ≡ None) (λ v. bytes_of_hex text.now ≡ Some v.items)) }
+    ensures { IfOk result (λ o.
+        MatchOption o (bytes_of_hex text.now ≡ None) (λ v. bytes_of_hex text.now ≡ Some v.items)) }
 {
     let mut bytes = Vec::new(alloc);
     let mut rest = text;

@@ -36,7 +36,8 @@ pub trait ImageUnion {
         ensures united { (lg_k : ℕ) (images : List (List ℕ))
             → has_united seed lg_k images self.old
             → OnOk result (has_united seed lg_k (images ++ image.now ∷ []) self.new) }
-        ensures refused { is_ready seed self.old → IfErr result (IsImageRefusal merge_refusal (is_no_image seed image.now)) }
+        ensures refused { is_ready seed self.old
+            → IfErr result (IsImageRefusal merge_refusal (is_no_image seed image.now)) }
         ensures ready { is_ready seed self.old → OnOk result (is_ready seed self.new) };
 }
 
@@ -49,7 +50,8 @@ fn add_reader<U: ImageUnion, B: Allocator + Clone + Drop, R: TextReader>(
 ) -> Result<(), Unread>
     ensures united { (lg_k : ℕ) (images : List (List ℕ))
         → U.has_united seed lg_k images union.old
-        → IfSome (R.remaining reader.old) (λ image. OnOk result (U.has_united seed lg_k (images ++ image ∷ []) union.new)) }
+        → IfSome (R.remaining reader.old) (λ image.
+        OnOk result (U.has_united seed lg_k (images ++ image ∷ []) union.new)) }
     ensures refused { U.is_ready seed union.old
         → IfErr result (IsImageFailure U.merge_refusal (IfSome (R.remaining reader.old) (U.is_no_image seed))) }
     ensures ready { U.is_ready seed union.old → OnOk result (U.is_ready seed union.new) }
@@ -66,9 +68,9 @@ fn add_reader<U: ImageUnion, B: Allocator + Clone + Drop, R: TextReader>(
 /// Adds images one after another to a union. Returns their number.
 ///
 /// If the union has not failed, it is refused only with `InvalidData`, if some source is no image of this seed, with
-/// `OutOfMemory`, and with `Policy` if the union's policy may refuse to merge summaries. If a source fails, or can't be
-/// opened, its error is returned: only if sources may fail, so never for texts in memory. After an error, what the union
-/// has is unspecified.
+/// `OutOfMemory`, and with `Policy` if the union's policy may refuse to merge summaries. If a source fails, or can't
+/// be opened, its error is returned: only if sources may fail, so never for texts in memory. After an error, what the
+/// union has is unspecified.
 pub fn add_images<U: ImageUnion, B: Allocator + Clone + Drop, S: Sources>(
     union: &mut U,
     alloc: B,

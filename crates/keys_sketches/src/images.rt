@@ -25,8 +25,8 @@ use theta_sketches::{
     CompactThetaSketch, ThetaANotB, ThetaIntersection, ThetaUnion, ThetaUnionBuilder,
 };
 
-/// The sketch of an image. Refused with `InvalidData` only if the seed hash is 0 or the bytes aren't an image of a theta
-/// sketch of this seed, and with `OutOfMemory`.
+/// The sketch of an image. Refused with `InvalidData` only if the seed hash is 0 or the bytes aren't an image of a
+/// theta sketch of this seed, and with `OutOfMemory`.
 pub fn read_image<A: Allocator + Clone + Drop>(
     alloc: A,
     seed: u64,
@@ -38,8 +38,8 @@ pub fn read_image<A: Allocator + Clone + Drop>(
     CompactThetaSketch::deserialize_with_seed(alloc, image, seed)
 }
 
-/// The image of a sketch. If the sketch's seed hash isn't 0, `read_image` reads it again under the sketch's seed. Refused
-/// only with `OutOfMemory`.
+/// The image of a sketch. If the sketch's seed hash isn't 0, `read_image` reads it again under the sketch's seed.
+/// Refused only with `OutOfMemory`.
 pub fn image_of<A: Allocator + Clone + Drop>(
     sketch: &CompactThetaSketch<A>,
 ) -> Result<Vec<u8, A>, Error>
@@ -100,8 +100,8 @@ fn sketch_of<A: Allocator + Clone + Drop>(
 }
 
 /// The intersection of all sketches, ordered; of no sketches, the sketch of no lines. Refused with `InvalidArgument`
-/// for a seed whose seed hash is 0, and for a sketch of another seed, unless it or the intersection of those before it
-/// is empty; and with `OutOfMemory`.
+/// for a seed whose seed hash is 0, and for a sketch of another seed, unless it or the intersection of those before
+/// it is empty; and with `OutOfMemory`.
 pub fn intersection<A: Allocator + Clone + Drop>(
     alloc: A,
     seed: u64,
@@ -118,8 +118,8 @@ pub fn intersection<A: Allocator + Clone + Drop>(
     sketch_of(alloc, seed, &so_far)
 }
 
-/// The difference of two sketches, ordered. Refused with `InvalidArgument` for a seed whose seed hash is 0, and if the
-/// first sketch isn't empty and it, or a second that isn't empty, is of another seed; and with `OutOfMemory`.
+/// The difference of two sketches, ordered. Refused with `InvalidArgument` for a seed whose seed hash is 0, and if
+/// the first sketch isn't empty and it, or a second that isn't empty, is of another seed; and with `OutOfMemory`.
 pub fn difference<A: Allocator + Clone + Drop>(
     alloc: A,
     seed: u64,

@@ -42,7 +42,8 @@ pub fn lines_in_any_order()
         → value_of_lines hashing lg_k lines ≡ value_of_lines hashing lg_k others }
 {}
 
-/// Bytes that are read as a sketch begin with an image of `image_length` bytes, which alone is read as the same sketch.
+/// Bytes that are read as a sketch begin with an image of `image_length` bytes, which alone is read as the same
+/// sketch.
 pub fn image_begins()
     ensures { (bytes : List ℕ) (h : ℕ) (s : Compact ℕ) → Reads bytes h s → BeginsWithImage bytes h s }
 {}

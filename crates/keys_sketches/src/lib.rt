@@ -1,7 +1,7 @@
 //! Theta sketches of lines: made from readers, written as images and read again, united, intersected and subtracted.
 //!
-//! The main promise is that of `unite_images`: it unites the images of texts that were sketched apart, in any order, to
-//! the image of all their lines, byte for byte. `image_of_texts` sketches texts in memory apart and unites their
+//! The main promise is that of `unite_images`: it unites the images of texts that were sketched apart, in any order,
+//! to the image of all their lines, byte for byte. `image_of_texts` sketches texts in memory apart and unites their
 //! images.
 //!
 //! `OpenText` inserts the lines of a text that comes in pieces.

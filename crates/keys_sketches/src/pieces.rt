@@ -12,8 +12,8 @@ use sketch_base::Error;
 use std::alloc::Allocator;
 use theta_sketches::ThetaSketch;
 
-/// A text that comes in pieces, which may be cut anywhere. Its lines are inserted into a sketch as they end. It keeps the
-/// state of the open line's hash, and no byte.
+/// A text that comes in pieces, which may be cut anywhere. Its lines are inserted into a sketch as they end. It keeps
+/// the state of the open line's hash, and no byte.
 ///
 /// ```
 /// let mut text = OpenText::new(Hashing { key: Key::Line, seed: 9001 });
@@ -45,11 +45,12 @@ impl OpenText {
         self.hashing
     }
 
-    /// Inserts the lines that end in the next piece of the text. The seed of `hashing` should be the sketch's, which is
-    /// not checked.
+    /// Inserts the lines that end in the next piece of the text. The seed of `hashing` should be the sketch's, which
+    /// is not checked.
     ///
-    /// Refused only with `OutOfMemory`; then the text is as before the piece, and exactly some first lines of the piece are
-    /// inserted, perhaps none. The same call may be repeated: a line that was inserted before changes nothing.
+    /// Refused only with `OutOfMemory`; then the text is as before the piece, and exactly some first lines of the
+    /// piece are inserted, perhaps none. The same call may be repeated: a line that was inserted before changes
+    /// nothing.
     pub fn add<A: Allocator + Clone>(
         &mut self,
         sketch: &mut ThetaSketch<A>,
@@ -60,7 +61,8 @@ impl OpenText {
             → HasInserted start (text ++ piece.now) (line_state sketch.new) self.new) }
         ensures hashing { self.new.hashing ≡ self.old.hashing }
         ensures err { OnErr result (self.new ≡ self.old) }
-        ensures stopped { OnErr result (StopsInPiece piece.now (line_state sketch.old) (line_state sketch.new) self.old) }
+        ensures stopped { OnErr result
+            (StopsInPiece piece.now (line_state sketch.old) (line_state sketch.new) self.old) }
         ensures refused { Refuses result None true }
     {
         let mut last = self.last;
@@ -69,8 +71,8 @@ impl OpenText {
         Ok(())
     }
 
-    /// Ends the text: inserts a last line without an LF, if it has a byte. Then all lines of the text are inserted, and
-    /// another text may begin.
+    /// Ends the text: inserts a last line without an LF, if it has a byte. Then all lines of the text are inserted,
+    /// and another text may begin.
     ///
     /// Refused only with `OutOfMemory`; then nothing has changed.
     pub fn end<A: Allocator + Clone>(&mut self, sketch: &mut ThetaSketch<A>) -> Result<(), Error>

@@ -24,8 +24,8 @@ use theta_sketches::{CompactThetaSketch, ThetaSketch, ThetaSketchBuilder};
 /// Why lines or images were not read.
 #[derive(Debug, Drop)]
 pub enum Unread {
-    /// Memory was refused (`OutOfMemory`), an `lg_k` isn't from 4 to 26, the seed hash is 0, or a sketch is of another
-    /// seed (`InvalidArgument`), or a source is not an image (`InvalidData`).
+    /// Memory was refused (`OutOfMemory`), an `lg_k` isn't from 4 to 26, the seed hash is 0, or a sketch is of
+    /// another seed (`InvalidArgument`), or a source is not an image (`InvalidData`).
     Refused(Error),
     /// A source failed, or couldn't be opened.
     Failed(io::Error),
@@ -92,15 +92,16 @@ pub fn new_sketch<A: Allocator + Drop>(
 /// How many lines are hashed before their hashes are inserted together.
 const LINES_AT_ONCE: usize = 256;
 
-/// Inserts the lines of a text that end in an LF. Returns the text after the last of them, and their number. Refused only
-/// with `OutOfMemory`; then exactly some first lines are inserted, perhaps none.
+/// Inserts the lines of a text that end in an LF. Returns the text after the last of them, and their number. Refused
+/// only with `OutOfMemory`; then exactly some first lines are inserted, perhaps none.
 fn take_lines<'a, A: Allocator + Clone>(
     sketch: &mut ThetaSketch<A>,
     hashing: Hashing,
     text: &'a [u8],
 ) -> Result<(&'a [u8], u64), Error>
     ensures lacks { IfOk result (λ x. Lacks 10 x.0.now) }
-    ensures leaves { IfOk result (λ x. Leaves hashing (line_state sketch.old) text.now (line_state sketch.new) x.0.now) }
+    ensures leaves { IfOk result (λ x.
+        Leaves hashing (line_state sketch.old) text.now (line_state sketch.new) x.0.now) }
     ensures stopped { OnErr result (InsertsFirst hashing (line_state sketch.old) [] text.now (line_state sketch.new)) }
     ensures refused { Refuses result None true }
 {
@@ -150,7 +151,8 @@ pub(crate) fn take_block<A: Allocator + Clone>(
     Ok(count.wrapping_add(1))
 }
 
-/// Inserts a last line without an LF, if it has a byte. Refused only with `OutOfMemory`; then the sketch is unchanged.
+/// Inserts a last line without an LF, if it has a byte. Refused only with `OutOfMemory`; then the sketch is
+/// unchanged.
 pub(crate) fn take_last<A: Allocator + Clone>(
     sketch: &mut ThetaSketch<A>,
     last: &OpenLine,
@@ -170,8 +172,8 @@ pub(crate) fn take_last<A: Allocator + Clone>(
 /// Inserts all lines that a reader has left, block by block, each by its key. The seed of `hashing` should be the
 /// sketch's, which is not checked. An interrupted read is repeated.
 ///
-/// Refused only with `OutOfMemory`. If the reader fails, its error is returned: only if its reads may fail, so never for a
-/// text in memory. After an error, some of the first lines are inserted; no clause says which.
+/// Refused only with `OutOfMemory`. If the reader fails, its error is returned: only if its reads may fail, so never
+/// for a text in memory. After an error, some of the first lines are inserted; no clause says which.
 ///
 /// `block` has at least one byte, and its length is the most that one read requests. Its old contents are not used.
 pub fn add_lines<A: Allocator + Clone, R: TextReader, W: Watch>(
@@ -182,7 +184,8 @@ pub fn add_lines<A: Allocator + Clone, R: TextReader, W: Watch>(
     watch: &mut W,
 ) -> Result<(), Unread>
     requires room { 0 < length block.old }
-    ensures lines { IfSome (R.remaining reader.old) (λ text. OnOk result (line_state sketch.new ≡ with_lines hashing (line_state sketch.old) (lines_of text))) }
+    ensures lines { IfSome (R.remaining reader.old) (λ text.
+        OnOk result (line_state sketch.new ≡ with_lines hashing (line_state sketch.old) (lines_of text))) }
     ensures seeded { OnOk result (sketch.new.map.seed_hash ≡ sketch.old.map.seed_hash) }
     ensures refused { RefusesRead result None }
     ensures retried { IfErr result IsLasting }
@@ -217,7 +220,8 @@ pub(crate) fn add_text<A: Allocator + Clone, W: Watch>(
     text: &[u8],
     watch: &mut W,
 ) -> Result<(), Error>
-    ensures lines { OnOk result (line_state sketch.new ≡ with_lines hashing (line_state sketch.old) (lines_of text.now)) }
+    ensures lines { OnOk result
+        (line_state sketch.new ≡ with_lines hashing (line_state sketch.old) (lines_of text.now)) }
     ensures refused { Refuses result None true }
 {
     let mut last = OpenLine::new(hashing);
@@ -226,8 +230,8 @@ pub(crate) fn add_text<A: Allocator + Clone, W: Watch>(
     take_last(sketch, &last)
 }
 
-/// Trims the sketch, which stays trimmed, and returns its compact form, ordered. Refused only with `OutOfMemory`; then
-/// the sketch may be trimmed already.
+/// Trims the sketch, which stays trimmed, and returns its compact form, ordered. Refused only with `OutOfMemory`;
+/// then the sketch may be trimmed already.
 pub fn finished<A: Allocator + Clone>(
     sketch: &mut ThetaSketch<A>,
 ) -> Result<CompactThetaSketch<A>, Error>
@@ -241,10 +245,10 @@ pub fn finished<A: Allocator + Clone>(
     sketch.compact(true)
 }
 
-/// The sketch of all lines that a reader has left. Refused with `InvalidArgument` only for an `lg_k` that isn't from 4
-/// to 26 or a seed whose seed hash is 0, and with `OutOfMemory`. If a read fails, its error is returned: only if reads may
-/// fail, so never for a text in memory. An interrupted read is repeated. For a wrong `lg_k` or seed nothing is read. No
-/// clause says that the error is the reader's, or that nothing is read.
+/// The sketch of all lines that a reader has left. Refused with `InvalidArgument` only for an `lg_k` that isn't from
+/// 4 to 26 or a seed whose seed hash is 0, and with `OutOfMemory`. If a read fails, its error is returned: only if
+/// reads may fail, so never for a text in memory. An interrupted read is repeated. For a wrong `lg_k` or seed nothing
+/// is read. No clause says that the error is the reader's, or that nothing is read.
 ///
 /// `block` has at least one byte, and its length is the most that one read requests. Its old contents are not used.
 pub fn sketch_lines<A: Allocator + Clone + Drop, R: TextReader, W: Watch>(

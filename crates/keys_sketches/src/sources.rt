@@ -65,13 +65,13 @@ pub trait Sources {
     /// Whether a source may fail, or fail to be opened.
     ghost may_fail: { Bool };
 
-    /// Whether a source may fail, or fail to be opened; false for texts in memory. Without such a failure only memory can
-    /// be missing.
+    /// Whether a source may fail, or fail to be opened; false for texts in memory. Without such a failure only memory
+    /// can be missing.
     fn may_fail() -> bool
         ensures { result ≡ may_fail };
 
-    /// The next text's reader, or `None` at the end. An error, of any kind, means that it couldn't be opened; the texts
-    /// that are left are then unspecified.
+    /// The next text's reader, or `None` at the end. An error, of any kind, means that it couldn't be opened; the
+    /// texts that are left are then unspecified.
     fn next_source(&mut self) -> io::Result<Option<Self::Source>>
         ensures { IfOk result (GivesNext Self.Source.remaining (texts self.old) (texts self.new)) };
 
@@ -131,7 +131,8 @@ fn add_source<A: Allocator + Clone, B: Allocator, R: TextReader, W: Watch>(
     reader: &mut R,
     watch: &mut W,
 ) -> Result<(), Unread>
-    ensures lines { IfSome (R.remaining reader.old) (λ text. OnOk result (line_state sketch.new ≡ with_lines hashing (line_state sketch.old) (lines_of text))) }
+    ensures lines { IfSome (R.remaining reader.old) (λ text.
+        OnOk result (line_state sketch.new ≡ with_lines hashing (line_state sketch.old) (lines_of text))) }
     ensures refused { RefusesRead result None }
     ensures fallible { IfErr result (FailsIf R.may_fail) }
 {
@@ -139,11 +140,11 @@ fn add_source<A: Allocator + Clone, B: Allocator, R: TextReader, W: Watch>(
     add_lines(sketch, hashing, reader, &mut block, watch)
 }
 
-/// Inserts the lines of all texts, each cut into lines by itself: a last line without an LF isn't joined to the next text.
-/// The seed of `hashing` should be the sketch's, which is not checked.
+/// Inserts the lines of all texts, each cut into lines by itself: a last line without an LF isn't joined to the next
+/// text. The seed of `hashing` should be the sketch's, which is not checked.
 ///
-/// Refused only with `OutOfMemory`. If a source fails or can't be opened, its error is returned: only if sources may fail,
-/// so never for texts in memory. After an error, some of the first lines are inserted; no clause says which.
+/// Refused only with `OutOfMemory`. If a source fails or can't be opened, its error is returned: only if sources may
+/// fail, so never for texts in memory. After an error, some of the first lines are inserted; no clause says which.
 pub fn add_sources<A: Allocator + Clone, B: Allocator + Clone + Drop, S: Sources, W: Watch>(
     sketch: &mut ThetaSketch<A>,
     alloc: B,
@@ -168,10 +169,10 @@ pub fn add_sources<A: Allocator + Clone, B: Allocator + Clone + Drop, S: Sources
     Err(Unread::Refused(Error::from(AllocError)))
 }
 
-/// The sketch of the lines of all texts, each text cut into lines by itself. Refused with `InvalidArgument` only for an
-/// `lg_k` that isn't from 4 to 26 or a seed whose seed hash is 0, and with `OutOfMemory`. If a source fails, or can't
-/// be opened, its error is returned: only if sources may fail, so never for texts in memory. For a wrong `lg_k` or seed
-/// nothing is read; no clause says so.
+/// The sketch of the lines of all texts, each text cut into lines by itself. Refused with `InvalidArgument` only for
+/// an `lg_k` that isn't from 4 to 26 or a seed whose seed hash is 0, and with `OutOfMemory`. If a source fails, or
+/// can't be opened, its error is returned: only if sources may fail, so never for texts in memory. For a wrong `lg_k`
+/// or seed nothing is read; no clause says so.
 pub fn sketch_sources<A: Allocator + Clone + Drop, S: Sources, W: Watch>(
     alloc: A,
     hashing: Hashing,

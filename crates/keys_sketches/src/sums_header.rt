@@ -1,8 +1,10 @@
-//! What the preamble of an image of sums says: how long the image is, how many sums it has, and why bytes are not read. The
-//! rules are those of `CompactTupleSketch::deserialize_with_seed` for summaries of eight bytes.
+//! What the preamble of an image of sums says: how long the image is, how many sums it has, and why bytes are not
+//! read. The rules are those of `CompactTupleSketch::deserialize_with_seed` for summaries of eight bytes.
 ghost use Rattle.std.specs.Prelude.{◌≡◌, ◌≤◌, ◌*◌, true, length};
 ghost use Rattle.core_images.specs.Preamble.{is_empty};
-ghost use Rattle.keys_sketches.specs.SumsHeader.{has_sums_version, has_sums_type, sums_preamble_length, has_sums_preamble, announced_sums, sums_length, sums_count, sums_flaw_of_preamble, sums_flaw_of};
+ghost use Rattle.keys_sketches.specs.SumsHeader.{has_sums_version, has_sums_type, sums_preamble_length};
+ghost use Rattle.keys_sketches.specs.SumsHeader.{has_sums_preamble, announced_sums, sums_length, sums_count};
+ghost use Rattle.keys_sketches.specs.SumsHeader.{sums_flaw_of_preamble, sums_flaw_of};
 
 use crate::header::{Flaw, flaw_by_length, has_longs};
 use crate::hex::are_digits;

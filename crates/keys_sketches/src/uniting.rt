@@ -134,8 +134,8 @@ fn new_batch<A: Allocator + Clone + Drop>(
     Ok(Batch::new(union, own))
 }
 
-/// The image of the result of a union, ordered, once the sketches that wait are merged. If the union has not failed, it is
-/// refused only with `OutOfMemory`.
+/// The image of the result of a union, ordered, once the sketches that wait are merged. If the union has not failed,
+/// it is refused only with `OutOfMemory`.
 fn image_of_batch<A: Allocator + Clone + Drop>(
     batch: Batch<ThetaUnion<A>, A>,
 ) -> Result<Vec<u8, A>, Error>
@@ -160,19 +160,19 @@ pub struct United<A: Allocator = Global> {
 
 /// The image of the union of images of this seed, each with its own reader, and the number of these images.
 ///
-/// If the images are those of texts that were sketched apart, by one key, with this seed and at least this `lg_k`, it is
-/// the image of all their lines, byte for byte, in any order of the images. If each text but the last is empty or ends in
-/// an LF, it is also the image of the concatenated texts. An image doesn't show the key and the `lg_k` that it was made
-/// with.
+/// If the images are those of texts that were sketched apart, by one key, with this seed and at least this `lg_k`, it
+/// is the image of all their lines, byte for byte, in any order of the images. If each text but the last is empty or
+/// ends in an LF, it is also the image of the concatenated texts. An image doesn't show the key and the `lg_k` that
+/// it was made with.
 ///
-/// Each image is read and checked before the next source is opened. Its sketch waits until 64 sketches wait, or they have
-/// more than 2^17 entries together, and is then merged with them. So in memory beside the union are at most one image, its
-/// sketch and 1 MB of other sketches.
+/// Each image is read and checked before the next source is opened. Its sketch waits until 64 sketches wait, or they
+/// have more than 2^17 entries together, and is then merged with them. So in memory beside the union are at most one
+/// image, its sketch and 1 MB of other sketches.
 ///
 /// Refused with `InvalidArgument` only for an `lg_k` that isn't from 4 to 26 or a seed whose seed hash is 0; with
 /// `InvalidData` only if some source is no image of a theta sketch of this seed; and with `OutOfMemory`. If a source
-/// fails, or can't be opened, its error is returned: only if sources may fail, so never for images in memory. For a wrong
-/// `lg_k` or seed nothing is read; no clause says so.
+/// fails, or can't be opened, its error is returned: only if sources may fail, so never for images in memory. For a
+/// wrong `lg_k` or seed nothing is read; no clause says so.
 pub fn unite_images<A: Allocator + Clone + Drop, S: Sources>(
     alloc: A,
     seed: u64,

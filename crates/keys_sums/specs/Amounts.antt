@@ -1,5 +1,6 @@
 -- What lines add to the sums of their keys.
-use Rattle.std.specs.Prelude.{ℕ, ◌≡◌, ◌==◌, ◌++◌, ◌&&◌, ◌^◌, ⊤, not, nat_lt, List, [], length, Option, Some, None, is_some, unwrap_or, IsTrue, if◌then◌else◌}
+use Rattle.std.specs.Prelude.{ℕ, ◌≡◌, ◌==◌, ◌++◌, ◌&&◌, ◌^◌, ⊤, not, nat_lt, List, [], length, Option, Some, None}
+use Rattle.std.specs.Prelude.{is_some, unwrap_or, IsTrue, if◌then◌else◌}
 use Rattle.std.specs.List.{AllByRecursion}
 use Rattle.std.specs.Str.{all_ascii_digits}
 use Rattle.std.specs.Str.Parse.{digits_value}

@@ -1,5 +1,6 @@
 -- Bins of numbers by powers of two: 1, 2, 3 to 4, 5 to 8, and so on.
-use Rattle.std.specs.Prelude.{ℕ, zero, suc, ◌≡◌, ◌≤◌, ◌<◌, ◌+◌, ◌^◌, ◌&&◌, nat_le, max, Bool, true, List, [], ◌∷◌, map, filter}
+use Rattle.std.specs.Prelude.{ℕ, zero, suc, ◌≡◌, ◌≤◌, ◌<◌, ◌+◌, ◌^◌, ◌&&◌, nat_le, max, Bool, true, List, [], ◌∷◌}
+use Rattle.std.specs.Prelude.{map, filter}
 use Rattle.core_compact.specs.CompactState.{Compact}
 use Rattle.core_slots.specs.Entry.{tuple_key}
 use Rattle.core_slots.specs.declared.entry.TupleEntry.{TupleEntry}

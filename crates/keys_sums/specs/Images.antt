@@ -51,6 +51,7 @@ IsImageOfText hashing amount lg_k image text =
 -- .. each image of its own text
 abbrev pub AreImagesOfTexts : Hashing → (amount : List ℕ → ℕ) → (lg_k : ℕ) → (images texts : List (List ℕ)) → Type 0
 AreImagesOfTexts hashing amount lg_k [] [] = ⊤
-AreImagesOfTexts hashing amount lg_k (image ∷ images) (text ∷ texts) = IsImageOfText hashing amount lg_k image text × AreImagesOfTexts hashing amount lg_k images texts
+AreImagesOfTexts hashing amount lg_k (image ∷ images) (text ∷ texts) =
+    IsImageOfText hashing amount lg_k image text × AreImagesOfTexts hashing amount lg_k images texts
 AreImagesOfTexts hashing amount lg_k [] (text ∷ texts) = ⊥
 AreImagesOfTexts hashing amount lg_k (image ∷ images) [] = ⊥

@@ -17,7 +17,8 @@ Ends front piece ended left = (more : List ℕ) → lines_after front (piece ++ 
 
 -- a piece of a text was read: the lines that ended are added, after those that the sketch had before, and counted, and the open
 -- line has the bytes behind them
-pub record HasTaken (hashing : Hashing) (amount : Amount) (front piece : List ℕ) (old new : Updatable (TupleEntry ℕ)) (last : OpenAddend) (count counted : ℕ) : Type 0 where
+pub record HasTaken (hashing : Hashing) (amount : Amount) (front piece : List ℕ)
+    (old new : Updatable (TupleEntry ℕ)) (last : OpenAddend) (count counted : ℕ) : Type 0 where
   pub ended : List (List ℕ)
   pub left : List ℕ
   pub ends : Ends front piece ended left
@@ -26,17 +27,43 @@ pub record HasTaken (hashing : Hashing) (amount : Amount) (front piece : List �
   pub added : (lg_k : ℕ) (lines : List (List ℕ)) → HasAdded hashing amount lg_k lines old → HasAdded hashing amount lg_k (lines ++ ended) new
 
 -- if it succeeds, a call adds these lines after those that a sketch has
-abbrev pub AddsLines : {T : Type 0} → Hashing → Amount → (more : List (List ℕ)) → (old : Updatable (TupleEntry ℕ)) → Result T Unsummed → (new : Updatable (TupleEntry ℕ)) → Type 0
-AddsLines hashing amount more old result new = (lg_k : ℕ) (lines : List (List ℕ)) → HasAdded hashing amount lg_k lines old → OnOk result (HasAdded hashing amount lg_k (lines ++ more) new)
+abbrev pub AddsLines : {T : Type 0}
+    → Hashing
+    → Amount
+    → (more : List (List ℕ))
+    → (old : Updatable (TupleEntry ℕ))
+    → Result T Unsummed
+    → (new : Updatable (TupleEntry ℕ))
+    → Type 0
+AddsLines hashing amount more old result new =
+    (lg_k : ℕ) (lines : List (List ℕ))
+    → HasAdded hashing amount lg_k lines old
+    → OnOk result (HasAdded hashing amount lg_k (lines ++ more) new)
 
 -- .. the lines of a text, if it is known
-abbrev pub AddsText : {T : Type 0} → Hashing → Amount → Option (List ℕ) → (old : Updatable (TupleEntry ℕ)) → Result T Unsummed → (new : Updatable (TupleEntry ℕ)) → Type 0
-AddsText hashing amount known old result new = (lg_k : ℕ) (lines : List (List ℕ)) → HasAdded hashing amount lg_k lines old → IfSome known (λ text. OnOk result (HasAdded hashing amount lg_k (lines ++ lines_of text) new))
+abbrev pub AddsText : {T : Type 0}
+    → Hashing
+    → Amount
+    → Option (List ℕ)
+    → (old : Updatable (TupleEntry ℕ))
+    → Result T Unsummed
+    → (new : Updatable (TupleEntry ℕ))
+    → Type 0
+AddsText hashing amount known old result new =
+    (lg_k : ℕ) (lines : List (List ℕ))
+    → HasAdded hashing amount lg_k lines old
+    → IfSome known (λ text. OnOk result (HasAdded hashing amount lg_k (lines ++ lines_of text) new))
 
 -- a call reports a sum to be 2^64 or more only if one of these lines and those that a sketch has is
 abbrev pub ReportsPast : {T : Type 0} → Hashing → Amount → (more : List (List ℕ)) → (old : Updatable (TupleEntry ℕ)) → Result T Unsummed → Type 0
-ReportsPast hashing amount more old result = (lg_k : ℕ) (lines : List (List ℕ)) → HasAdded hashing amount lg_k lines old → IfErr result (IsPastIn hashing amount (lines ++ more))
+ReportsPast hashing amount more old result =
+    (lg_k : ℕ) (lines : List (List ℕ))
+    → HasAdded hashing amount lg_k lines old
+    → IfErr result (IsPastIn hashing amount (lines ++ more))
 
 -- .. of the lines of a text, if it is known
 abbrev pub ReportsPastText : {T : Type 0} → Hashing → Amount → Option (List ℕ) → (old : Updatable (TupleEntry ℕ)) → Result T Unsummed → Type 0
-ReportsPastText hashing amount known old result = (lg_k : ℕ) (lines : List (List ℕ)) → HasAdded hashing amount lg_k lines old → IfSome known (λ text. IfErr result (IsPastIn hashing amount (lines ++ lines_of text)))
+ReportsPastText hashing amount known old result =
+    (lg_k : ℕ) (lines : List (List ℕ))
+    → HasAdded hashing amount lg_k lines old
+    → IfSome known (λ text. IfErr result (IsPastIn hashing amount (lines ++ lines_of text)))

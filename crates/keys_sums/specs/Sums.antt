@@ -45,7 +45,8 @@ sketch_of_sums hashing amount lg_k lines = ordered_sketch (sums_of_lines hashing
 -- the sum of what the lines add whose hashes aren't screened at a theta
 abbrev pub sum_below : Hashing → (amount : List ℕ → ℕ) → (theta : ℕ) → List (List ℕ) → ℕ
 sum_below hashing amount theta [] = 0
-sum_below hashing amount theta (line ∷ lines) = (if is_screened (line_hash hashing line) theta then 0 else amount line) + sum_below hashing amount theta lines
+sum_below hashing amount theta (line ∷ lines) =
+    (if is_screened (line_hash hashing line) theta then 0 else amount line) + sum_below hashing amount theta lines
 
 -- lines, as the steps of a leaf
 abbrev pub sum_steps : Hashing → (amount : List ℕ → ℕ) → List (List ℕ) → List (LeafStep ℕ)

@@ -21,12 +21,13 @@ use keys_lines::{Hashing, Key, OpenLine};
 pub enum Amount {
     /// One, so that a sum is the number of a key's lines.
     One,
-    /// The whole number below 2^64 that this part of the line spells in decimal digits, with nothing else beside them.
+    /// The whole number below 2^64 that this part of the line spells in decimal digits, with nothing else beside
+    /// them.
     Number(Key),
 }
 
-/// The number in a part of a line, of which some bytes are read: its digits so far, and the number of separators so far.
-/// These are counted up to one more than the separators before the part.
+/// The number in a part of a line, of which some bytes are read: its digits so far, and the number of separators so
+/// far. These are counted up to one more than the separators before the part.
 #[derive(Clone, Copy)]
 pub(crate) struct OpenNumber {
     digits: Digits,
@@ -74,8 +75,8 @@ impl OpenNumber {
         }
     }
 
-    /// The state after a byte of a field. It belongs to the number if there was no separator yet, or as many as there are
-    /// before the number's field.
+    /// The state after a byte of a field. It belongs to the number if there was no separator yet, or as many as there
+    /// are before the number's field.
     fn put(self, before: u32, separator: u8, byte: u8) -> OpenNumber
         ensures { (front : List ℕ)
             → IsOpenNumber (Field before separator) front self

@@ -10,8 +10,8 @@ use std::alloc::Allocator;
 use tuple_sketches::CompactTupleSketch;
 use tuple_sketches::laws::read_again;
 
-/// The image of a sketch of sums, in the DataSketches format of family 9, with eight bytes per sum. If the sketch's seed
-/// hash isn't 0, `read_sums` reads it again under the sketch's seed. Refused only with `OutOfMemory`.
+/// The image of a sketch of sums, in the DataSketches format of family 9, with eight bytes per sum. If the sketch's
+/// seed hash isn't 0, `read_sums` reads it again under the sketch's seed. Refused only with `OutOfMemory`.
 pub fn sums_image<A: Allocator + Clone + Drop>(
     sketch: &CompactTupleSketch<u64, A>,
 ) -> Result<Vec<u8, A>, Error>
@@ -28,8 +28,9 @@ pub fn sums_image<A: Allocator + Clone + Drop>(
     sketch.serialize()
 }
 
-/// The sketch of sums in an image. Bytes behind the image are ignored. Refused with `InvalidData` only if the seed hash is
-/// 0 or the bytes aren't an image of a tuple sketch of this seed with eight bytes per summary, and with `OutOfMemory`.
+/// The sketch of sums in an image. Bytes behind the image are ignored. Refused with `InvalidData` only if the seed
+/// hash is 0 or the bytes aren't an image of a tuple sketch of this seed with eight bytes per summary, and with
+/// `OutOfMemory`.
 pub fn read_sums<A: Allocator + Clone + Drop>(
     alloc: A,
     seed: u64,

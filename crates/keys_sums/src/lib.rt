@@ -1,11 +1,12 @@
-//! Sums of lines by their keys: how often each key comes, and how many keys come how often; or the sum of the numbers in a
-//! field of each key's lines.
+//! Sums of lines by their keys: how often each key comes, and how many keys come how often; or the sum of the numbers
+//! in a field of each key's lines.
 //!
-//! A sketch of sums retains the same hashes as the theta sketch of the same lines, and beside each the sum of what all lines
-//! of that hash add: its number of lines, if each adds one. No line of a retained hash is missed, however large the text.
+//! A sketch of sums retains the same hashes as the theta sketch of the same lines, and beside each the sum of what
+//! all lines of that hash add: its number of lines, if each adds one. No line of a retained hash is missed, however
+//! large the text.
 //!
-//! A sketch of sums is written as an image, and images of sums are united: `unite_sums` unites the images of texts that were
-//! sketched apart to the image of the sums of all their lines, byte for byte.
+//! A sketch of sums is written as an image, and images of sums are united: `unite_sums` unites the images of texts
+//! that were sketched apart to the image of the sums of all their lines, byte for byte.
 //!
 //! How often the lines of texts come, and how many of those retained come five to eight times:
 //!

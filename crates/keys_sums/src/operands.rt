@@ -45,9 +45,9 @@ fn add<A: Allocator + Clone + Drop>(
     Ok(())
 }
 
-/// The sketches of sums in images of this seed, one for each image, each with its own reader. Refused with `InvalidData`
-/// only if some source is no image of sums of this seed, and with `OutOfMemory`. If a source fails, or can't be opened, its error
-/// is returned: only if sources may fail, so never for images in memory.
+/// The sketches of sums in images of this seed, one for each image, each with its own reader. Refused with
+/// `InvalidData` only if some source is no image of sums of this seed, and with `OutOfMemory`. If a source fails, or
+/// can't be opened, its error is returned: only if sources may fail, so never for images in memory.
 pub fn all_sums<A: Allocator + Clone + Drop, S: Sources>(
     alloc: A,
     seed: u64,

@@ -34,8 +34,8 @@ fn add_source<A: Allocator + Clone, B: Allocator, R: TextReader>(
     add_lines(sketch, hashing, amount, reader, &mut block)
 }
 
-/// Adds what each line of all texts adds. Each text is cut into lines by itself: a last line without an LF isn't joined to
-/// the next text.
+/// Adds what each line of all texts adds. Each text is cut into lines by itself: a last line without an LF isn't
+/// joined to the next text.
 fn add_sources<A: Allocator + Clone, B: Allocator + Clone + Drop, S: Sources>(
     sketch: &mut SumSketch<A>,
     alloc: B,
@@ -71,14 +71,15 @@ fn add_sources<A: Allocator + Clone, B: Allocator + Clone + Drop, S: Sources>(
     Err(Unsummed::Refused(Error::from(AllocError)))
 }
 
-/// The sketch of the lines of all texts, in which each retained hash has the sum of what its lines add, in all texts. Each
-/// text is cut into lines by itself. If it is returned, each line of all texts adds a number.
+/// The sketch of the lines of all texts, in which each retained hash has the sum of what its lines add, in all texts.
+/// Each text is cut into lines by itself. If it is returned, each line of all texts adds a number.
 ///
 /// Refused with `InvalidArgument` only for an `lg_k` that isn't from 4 to 26 or a seed whose seed hash is 0, and with
-/// `OutOfMemory`. A line that would make a sum 2^64 or more, or that adds no number, is an error that has the line's number
-/// in its text. A line is reported to add no number only if the line of its number in some text adds none, and a sum to be
-/// 2^64 or more only if one of all lines is. If a source fails, or can't be opened, its error is returned: only if sources
-/// may fail, so never for texts in memory. For a wrong `lg_k` or seed nothing is read; no clause says so.
+/// `OutOfMemory`. A line that would make a sum 2^64 or more, or that adds no number, is an error that has the line's
+/// number in its text. A line is reported to add no number only if the line of its number in some text adds none, and
+/// a sum to be 2^64 or more only if one of all lines is. If a source fails, or can't be opened, its error is
+/// returned: only if sources may fail, so never for texts in memory. For a wrong `lg_k` or seed nothing is read; no
+/// clause says so.
 pub fn sum_sources<A: Allocator + Clone + Drop, S: Sources>(
     alloc: A,
     hashing: Hashing,
@@ -88,7 +89,8 @@ pub fn sum_sources<A: Allocator + Clone + Drop, S: Sources>(
 ) -> Result<CompactTupleSketch<u64, A>, Unsummed>
     ensures sketch { IfSome (S.texts sources.old) (λ texts.
         IfOk result (λ s. s ≡ sketch_of_sums hashing (added_by amount) lg_k (lines_of_all texts))) }
-    ensures numbers { IfSome (S.texts sources.old) (λ texts. IfOk result (λ _. AreNumbers amount (lines_of_all texts))) }
+    ensures numbers { IfSome (S.texts sources.old) (λ texts.
+        IfOk result (λ _. AreNumbers amount (lines_of_all texts))) }
     ensures numbered { IfSome (S.texts sources.old) (λ texts. IfErr result (LacksNumberOf amount texts)) }
     ensures past { IfSome (S.texts sources.old) (λ texts. IfErr result (IsPastIn hashing amount (lines_of_all texts))) }
     ensures refused { RefusesSums amount result (settings_refusal lg_k MAX_THETA hashing.seed) }

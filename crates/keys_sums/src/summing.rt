@@ -1,5 +1,6 @@
 //! Sketches of sums of the lines of a reader.
-ghost use Rattle.std.specs.Prelude.{◌≡◌, ◌<◌, ◌++◌, ◌∷◌, ℕ, Bool, List, [], length, IfOk, IfErr, OnOk, IfSome, None, true};
+ghost use Rattle.std.specs.Prelude.{◌≡◌, ◌<◌, ◌++◌, ◌∷◌, ℕ, Bool, List, [], length, IfOk, IfErr, OnOk, IfSome};
+ghost use Rattle.std.specs.Prelude.{None, true};
 ghost use Rattle.sketch_base.specs.declared.error.ErrorKind.TheVariants.{Policy};
 ghost use Rattle.core_laws.specs.Refusal.{Refuses};
 ghost use Rattle.core_laws.specs.Settings.{settings_refusal};
@@ -10,7 +11,8 @@ ghost use Rattle.keys_lines.specs.declared.key.Hashing.{Hashing};
 ghost use Rattle.keys_sums.specs.Amounts.{IsOpenAddend};
 ghost use Rattle.keys_sums.specs.Sums.{HasSummed, sketch_of_sums};
 ghost use Rattle.keys_sums.specs.Reading.{HasTaken, AddsLines, AddsText, ReportsPast, ReportsPastText};
-ghost use Rattle.keys_sums.specs.Refusals.{FailsIf, IsAddRefusal, IsByPolicy, IsLastingFailure, IsPast, IsUnsummed, LacksNumber, LacksNumberAt, LacksNumberIn, RefusesSums};
+ghost use Rattle.keys_sums.specs.Refusals.{FailsIf, IsAddRefusal, IsByPolicy, IsLastingFailure, IsPast, IsUnsummed};
+ghost use Rattle.keys_sums.specs.Refusals.{LacksNumber, LacksNumberAt, LacksNumberIn, RefusesSums};
 ghost use Rattle.keys_sums.specs.declared.addends.Amount.{Amount};
 
 use crate::addends::{Amount, OpenAddend};
@@ -138,8 +140,8 @@ fn add_line<A: Allocator + Clone>(
     }
 }
 
-/// Adds each line that ends in a block, which continues an open line behind `count` lines. The open line is then the text
-/// behind the block's last LF. Returns how many lines of the text have ended so far.
+/// Adds each line that ends in a block, which continues an open line behind `count` lines. The open line is then the
+/// text behind the block's last LF. Returns how many lines of the text have ended so far.
 fn take_block<A: Allocator + Clone>(
     sketch: &mut SumSketch<A>,
     hashing: Hashing,
@@ -200,13 +202,13 @@ fn take_last<A: Allocator + Clone>(
     add_line(sketch, amount, last, count)
 }
 
-/// Adds what each line that a reader has left adds, block by block, to the sum at the line's key. The seed of `hashing`
-/// should be the sketch's, which is not checked. An interrupted read is repeated.
+/// Adds what each line that a reader has left adds, block by block, to the sum at the line's key. The seed of
+/// `hashing` should be the sketch's, which is not checked. An interrupted read is repeated.
 ///
-/// Refused only with `OutOfMemory`. A line that would make a sum 2^64 or more, or that adds no number, is an error that
-/// has its number. A line is reported to add no number only if the line of its number adds none, and a sum to be 2^64 or
-/// more only if one of all lines is. If the reader fails, its error is returned: only if its reads may fail, so never for a
-/// text in memory. After an error some first part of the lines is added; no clause says so.
+/// Refused only with `OutOfMemory`. A line that would make a sum 2^64 or more, or that adds no number, is an error
+/// that has its number. A line is reported to add no number only if the line of its number adds none, and a sum to be
+/// 2^64 or more only if one of all lines is. If the reader fails, its error is returned: only if its reads may fail,
+/// so never for a text in memory. After an error some first part of the lines is added; no clause says so.
 ///
 /// `block` has at least one byte, and its length is the most that one read gets. Its old contents are not used.
 pub fn add_lines<A: Allocator + Clone, R: TextReader>(
@@ -249,8 +251,8 @@ pub fn add_lines<A: Allocator + Clone, R: TextReader>(
     Err(Unsummed::Refused(Error::from(AllocError)))
 }
 
-/// Trims the sketch, which stays trimmed, and returns its compact form, ordered. Refused only with `OutOfMemory`; then
-/// the sketch may be trimmed already.
+/// Trims the sketch, which stays trimmed, and returns its compact form, ordered. Refused only with `OutOfMemory`;
+/// then the sketch may be trimmed already.
 pub fn finished<A: Allocator + Clone>(
     sketch: &mut SumSketch<A>,
 ) -> Result<CompactTupleSketch<u64, A>, Error>

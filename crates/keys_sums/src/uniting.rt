@@ -15,7 +15,8 @@ ghost use Rattle.keys_sketches.specs.Batches.{HasRead, IsReadyFor};
 ghost use Rattle.keys_sketches.specs.Refusals.{FailsIf, IsMergeError};
 ghost use Rattle.keys_sketches.specs.Unions.{IsReady};
 ghost use Rattle.keys_sums.specs.Images.{ReadsSumsUnder};
-ghost use Rattle.keys_sums.specs.Unions.{HasUnitedSums, IsUnitedSums, IsUnitedSumsImage, AreSumsOfTexts, UnitesSumsOfTexts};
+ghost use Rattle.keys_sums.specs.Unions.{HasUnitedSums, IsUnitedSums, IsUnitedSumsImage, AreSumsOfTexts};
+ghost use Rattle.keys_sums.specs.Unions.{UnitesSumsOfTexts};
 ghost use Rattle.keys_sums.specs.Unions.{IsUniteSumsRefusal, folds_of_sketches};
 
 use crate::bins::greatest_sum;
@@ -51,7 +52,8 @@ fn views_of<'a, A: Allocator + Clone + Drop>(
     alloc: A,
     sketches: &'a [CompactTupleSketch<u64, A>],
 ) -> Result<Vec<TupleSketchView<'a, u64, A>, A>, AllocError>
-    ensures shown { IfOk result (λ v. map (λ view. shows tuple_key view) v.items ≡ map (shown_of tuple_key) sketches.now) }
+    ensures shown { IfOk result (λ v.
+        map (λ view. shows tuple_key view) v.items ≡ map (shown_of tuple_key) sketches.now) }
     ensures values { IfOk result (λ v.
         map (λ view. unmarked_value (shown_value tuple_key (shows tuple_key view) (sequence view))) v.items
         ≡ folds_of_sketches sketches.now) }
@@ -131,8 +133,8 @@ fn new_batch<A: Allocator + Clone + Drop>(
     Ok(Batch::new(union, own))
 }
 
-/// The result of a union, ordered, once the sketches that wait are merged. If the union has not failed, it is refused only
-/// with `Policy` and `OutOfMemory`.
+/// The result of a union, ordered, once the sketches that wait are merged. If the union has not failed, it is refused
+/// only with `Policy` and `OutOfMemory`.
 fn sketch_of_batch<A: Allocator + Clone + Drop>(
     batch: Batch<SumsUnion<A>, A>,
 ) -> Result<CompactTupleSketch<u64, A>, Error>
@@ -156,24 +158,24 @@ pub struct UnionOfSums<A: Allocator + Drop = Global> {
     pub count: u64,
 }
 
-/// The sketch of the union of images of sums of this seed, each with its own reader, and the number of these images. The
-/// sums of a key that images share are added.
+/// The sketch of the union of images of sums of this seed, each with its own reader, and the number of these images.
+/// The sums of a key that images share are added.
 ///
-/// If the images are those of the sums of texts that were sketched apart, by one key and one amount, with this seed and at
-/// least this `lg_k`, it is the sketch of the sums of all their lines. An image doesn't show the key, the amount and the
-/// `lg_k` that it was made with.
+/// If the images are those of the sums of texts that were sketched apart, by one key and one amount, with this seed
+/// and at least this `lg_k`, it is the sketch of the sums of all their lines. An image doesn't show the key, the
+/// amount and the `lg_k` that it was made with.
 ///
-/// Each image is read and checked before the next source is opened. Its sketch waits until 64 sketches wait, or they have
-/// more than 2^17 entries together, and is then merged with them. If the greatest sums of all sketches are 2^64 or more
-/// together, it is merged before the next source is opened: so if a merge is refused with `Policy`, no sum is too large
-/// without the image that was read last. In memory beside the union are at most one image, its sketch and 2 MB of other
-/// sketches.
+/// Each image is read and checked before the next source is opened. Its sketch waits until 64 sketches wait, or they
+/// have more than 2^17 entries together, and is then merged with them. If the greatest sums of all sketches are 2^64
+/// or more together, it is merged before the next source is opened: so if a merge is refused with `Policy`, no sum is
+/// too large without the image that was read last. In memory beside the union are at most one image, its sketch and 2
+/// MB of other sketches.
 ///
 /// Refused with `InvalidArgument` only for an `lg_k` that isn't from 4 to 26 or a seed whose seed hash is 0; with
-/// `InvalidData` only if some source is no image of sums of this seed; with `Policy` if the sums of a key below every theta
-/// so far are 2^64 or more together, which no clause says; and with `OutOfMemory`. If a source fails, or can't be opened,
-/// its error is returned: only if sources may fail, so never for images in memory. For a wrong `lg_k` or seed nothing is
-/// read; no clause says so.
+/// `InvalidData` only if some source is no image of sums of this seed; with `Policy` if the sums of a key below every
+/// theta so far are 2^64 or more together, which no clause says; and with `OutOfMemory`. If a source fails, or can't
+/// be opened, its error is returned: only if sources may fail, so never for images in memory. For a wrong `lg_k` or
+/// seed nothing is read; no clause says so.
 pub fn union_of_sums<A: Allocator + Clone + Drop, S: Sources>(
     alloc: A,
     seed: u64,
@@ -184,7 +186,8 @@ pub fn union_of_sums<A: Allocator + Clone + Drop, S: Sources>(
     ensures counted { IfSome (S.texts images.old) (λ all. IfOk result (λ u. u.count ≡ length all)) }
     ensures apart { IfSome (S.texts images.old) (λ all. IfOk result (λ u. AreSumsOfTexts seed lg_k all u.sketch)) }
     ensures accepted { OnOk result (settings_refusal lg_k MAX_THETA seed ≡ None) }
-    ensures refused { IfErr result (IsUniteSumsRefusal seed (settings_refusal lg_k MAX_THETA seed) (S.texts images.old)) }
+    ensures refused { IfErr result
+        (IsUniteSumsRefusal seed (settings_refusal lg_k MAX_THETA seed) (S.texts images.old)) }
     ensures fallible { IfErr result (FailsIf S.may_fail) }
 {
     one_reading::<u64, A>();
@@ -194,20 +197,23 @@ pub fn union_of_sums<A: Allocator + Clone + Drop, S: Sources>(
     Ok(UnionOfSums { sketch, count })
 }
 
-/// The image of the union of images of sums of this seed, as `union_of_sums` unites them, and the number of these images.
-/// For images of texts that were sketched apart it is the image of the sums of all their lines, byte for byte. Refused as
-/// `union_of_sums`.
+/// The image of the union of images of sums of this seed, as `union_of_sums` unites them, and the number of these
+/// images. For images of texts that were sketched apart it is the image of the sums of all their lines, byte for
+/// byte. Refused as `union_of_sums`.
 pub fn unite_sums<A: Allocator + Clone + Drop, S: Sources>(
     alloc: A,
     seed: u64,
     lg_k: u8,
     images: &mut S,
 ) -> Result<United<A>, Unread>
-    ensures united { IfSome (S.texts images.old) (λ all. IfOk result (λ u. IsUnitedSumsImage seed lg_k all u.image.items)) }
+    ensures united { IfSome (S.texts images.old) (λ all.
+        IfOk result (λ u. IsUnitedSumsImage seed lg_k all u.image.items)) }
     ensures counted { IfSome (S.texts images.old) (λ all. IfOk result (λ u. u.count ≡ length all)) }
-    ensures apart { IfSome (S.texts images.old) (λ all. IfOk result (λ u. UnitesSumsOfTexts seed lg_k all u.image.items)) }
+    ensures apart { IfSome (S.texts images.old) (λ all.
+        IfOk result (λ u. UnitesSumsOfTexts seed lg_k all u.image.items)) }
     ensures accepted { OnOk result (settings_refusal lg_k MAX_THETA seed ≡ None) }
-    ensures refused { IfErr result (IsUniteSumsRefusal seed (settings_refusal lg_k MAX_THETA seed) (S.texts images.old)) }
+    ensures refused { IfErr result
+        (IsUniteSumsRefusal seed (settings_refusal lg_k MAX_THETA seed) (S.texts images.old)) }
     ensures fallible { IfErr result (FailsIf S.may_fail) }
 {
     let united = union_of_sums(alloc, seed, lg_k, images)?;

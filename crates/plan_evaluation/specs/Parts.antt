@@ -30,8 +30,14 @@ shown_in_folds key shown listing = unmarked_value (shown_value key shown listing
 
 -- the result of a node as an operator sees it, from the state of its sketch or its compact sketch
 abbrev pub part_result : {X S C : Type 0} → (X → ℕ) → (S → Updatable X) → (C → State X) → Evaluated S C → Part X
-part_result key state listed (Mutable sketch) = record { value = sketch_in_folds (state sketch); seed_hash = (state sketch).map.seed_hash; ordered = false }
-part_result key state listed (Compact sketch) = record { value = unmarked_value (compact_value key (listed sketch)); seed_hash = (listed sketch).seed_hash; ordered = (listed sketch).ordered }
+part_result key state listed (Mutable sketch) =
+    record { value = sketch_in_folds (state sketch); seed_hash = (state sketch).map.seed_hash; ordered = false }
+part_result key state listed (Compact sketch) =
+    record {
+      value = unmarked_value (compact_value key (listed sketch));
+      seed_hash = (listed sketch).seed_hash;
+      ordered = (listed sketch).ordered;
+    }
 
 -- a compact sketch is the answer with this value in folds
 abbrev pub IsFoldAnswer : {X : Type 0} → (X → ℕ) → Sketch (Fold X) → (seed_hash : ℕ) → (asked : Bool) → State X → Type 0
@@ -39,18 +45,39 @@ IsFoldAnswer key v seed_hash asked s = (unmarked_value (compact_value key s) ≡
 
 -- a node's result has this value: a leaf's sketch as it is, and any other node's answer, ordered if that was requested
 -- (`asked`) or if the node orders it (`own`)
-abbrev pub HasValue : {X S C : Type 0} → (X → ℕ) → (S → Updatable X) → (C → State X) → Evaluated S C → (leaf : Bool) → Sketch (Fold X) → (seed_hash : ℕ) → (asked own : Bool) → Type 0
-HasValue key state listed (Mutable sketch) leaf v seed_hash asked own = (leaf ≡ true) × (own ≡ false) × (sketch_in_folds (state sketch) ≡ v) × ((state sketch).map.seed_hash ≡ seed_hash)
+abbrev pub HasValue : {X S C : Type 0}
+    → (X → ℕ)
+    → (S → Updatable X)
+    → (C → State X)
+    → Evaluated S C
+    → (leaf : Bool)
+    → Sketch (Fold X)
+    → (seed_hash : ℕ)
+    → (asked own : Bool)
+    → Type 0
+HasValue key state listed (Mutable sketch) leaf v seed_hash asked own =
+    (leaf ≡ true) × (own ≡ false) × (sketch_in_folds (state sketch) ≡ v) × ((state sketch).map.seed_hash ≡ seed_hash)
 HasValue key state listed (Compact sketch) leaf v seed_hash asked own = (leaf ≡ false) × IsFoldAnswer key v seed_hash (asked || own) (listed sketch)
 
 -- the result of a plan, with or without a requested order, in the folds f of the family
-abbrev pub IsResultOf : {X V Z S C : Type 0} → (X → ℕ) → (S → Updatable X) → (C → State X) → (f : Family (Fold X) V) → (seed_hash : ℕ) → Plan V Z → (asked : Bool) → Evaluated S C → Type 0
+abbrev pub IsResultOf : {X V Z S C : Type 0}
+    → (X → ℕ)
+    → (S → Updatable X)
+    → (C → State X)
+    → (f : Family (Fold X) V)
+    → (seed_hash : ℕ)
+    → Plan V Z
+    → (asked : Bool)
+    → Evaluated S C
+    → Type 0
 IsResultOf key state listed f seed_hash p asked e = HasValue key state listed e (is_leaf f p) (value_in f p) seed_hash asked (orders_itself f p)
 
 -- a union merges a value; an empty one changes nothing
 abbrev pub Joins : {X P V : Type 0} → (X → ℕ) → (f : Family (Fold X) V) → (old new : Union X P) → Sketch (Fold X) → Type 0
 Joins key f old new Empty = new ≡ old
-Joins key f old new (NonEmpty v) = unmarked_value (union_value key new) ≡ unite f.key f.merges (2 ^ old.lg_k) old.start (unmarked_value (union_value key old) ∷ NonEmpty v ∷ [])
+Joins key f old new (NonEmpty v) =
+    unmarked_value (union_value key new)
+    ≡ unite f.key f.merges (2 ^ old.lg_k) old.start (unmarked_value (union_value key old) ∷ NonEmpty v ∷ [])
 
 -- the value of an intersection: Empty before its first part
 abbrev pub value_or_empty : {X : Type 0} → Option (Sketch X) → Sketch X

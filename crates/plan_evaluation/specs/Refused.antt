@@ -19,18 +19,36 @@ RefusedFor e strict why = (e ≡ OutOfMemory) ⊎ ((e ≡ Policy) × IsTrue stri
 -- before a part the union has all of a whole map below its theta (`old`), and the part is a sample of another:
 -- afterwards the union has all of the two joined (`new`)
 abbrev pub HoldsMore : {X V : Type 0} → (f : Family (Fold X) V) → (old new : List (Fold X) → Type 0) → Sketch (Fold X) → Type 0
-HoldsMore {X} f old new v = (whole arriving : List (Fold X)) → IsAscending f.key whole → IsAscending f.key arriving → old whole → IsAllBelow f.key v arriving → new (joined f.key f.merges whole arriving)
+HoldsMore {X} f old new v =
+    (whole arriving : List (Fold X))
+    → IsAscending f.key whole
+    → IsAscending f.key arriving
+    → old whole
+    → IsAllBelow f.key v arriving
+    → new (joined f.key f.merges whole arriving)
 
 -- why a union's policy may refuse a part: the two whole maps, joined, have a mark, whichever they are
 abbrev pub MarksJoined : {X V : Type 0} → (f : Family (Fold X) V) → (holds : List (Fold X) → Type 0) → Sketch (Fold X) → Type 0
-MarksJoined {X} f holds v = (whole arriving : List (Fold X)) → IsAscending f.key whole → IsAscending f.key arriving → holds whole → IsAllBelow f.key v arriving → has_mark (joined f.key f.merges whole arriving) ≡ true
+MarksJoined {X} f holds v =
+    (whole arriving : List (Fold X))
+    → IsAscending f.key whole
+    → IsAscending f.key arriving
+    → holds whole
+    → IsAllBelow f.key v arriving
+    → has_mark (joined f.key f.merges whole arriving) ≡ true
 
 -- why an intersection's policy may refuse a part: what the two whole maps have in common has a mark, whichever they are
 abbrev pub MarksMet : {X V : Type 0} → (f : Family (Fold X) V) → (so_far : Option (Sketch (Fold X))) → Sketch (Fold X) → Type 0
 MarksMet f None v = ⊥
-MarksMet {X} f (Some u) v = (whole arriving : List (Fold X)) → IsAllBelow f.key u whole → IsAllBelow f.key v arriving → has_mark (common f.key f.merges whole arriving) ≡ true
+MarksMet {X} f (Some u) v =
+    (whole arriving : List (Fold X))
+    → IsAllBelow f.key u whole
+    → IsAllBelow f.key v arriving
+    → has_mark (common f.key f.merges whole arriving) ≡ true
 
 -- why the evaluation of a plan is refused: its settings, if no policy must refuse before the first out of range; or memory;
 -- or a policy that may refuse before the first setting out of range
 abbrev pub IsPlanRefused : {X V Z : Type 0} → (f : Family (Fold X) V) → (strict : Bool) → (seed : ℕ) → Plan V Z → ErrorKind → Type 0
-IsPlanRefused f strict seed p e = ((plan_refusal seed p ≡ Some e) × (must_refuse f seed p ≡ false)) ⊎ RefusedFor e strict (IsTrue (may_refuse f seed p))
+IsPlanRefused f strict seed p e =
+    ((plan_refusal seed p ≡ Some e) × (must_refuse f seed p ≡ false))
+    ⊎ RefusedFor e strict (IsTrue (may_refuse f seed p))

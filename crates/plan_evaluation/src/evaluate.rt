@@ -1,5 +1,6 @@
 //! One evaluation for every family of sketches.
-ghost use Rattle.std.specs.Prelude.{◌≡◌, ◌<◌, ◌^◌, ◌||◌, ◌⊎◌, ℕ, Bool, IsTrue, true, false, not, None, Some, IfOk, IfErr, OnOk};
+ghost use Rattle.std.specs.Prelude.{◌≡◌, ◌<◌, ◌^◌, ◌||◌, ◌⊎◌, ℕ, Bool, IsTrue, true, false, not, None, Some, IfOk};
+ghost use Rattle.std.specs.Prelude.{IfErr, OnOk};
 ghost use Rattle.sketch_base.specs.Seed.{seed_hash};
 ghost use Rattle.core_compact.specs.CompactState.{IsAnswer};
 ghost use Rattle.core_laws.specs.Settings.{settings_refusal};
@@ -21,18 +22,18 @@ use sketch_base::Error;
 use std::alloc::Allocator;
 
 /// Evaluates a node of a plan. A leaf's result is its sketch as it is. The result of any other node is a compact
-/// sketch. It is ordered exactly if `ordered` is set, if the node orders it (an image that is written ordered or of an
-/// ordered sketch, or a difference with an ordered first operand), if it is empty, or if it has one entry at the
+/// sketch. It is ordered exactly if `ordered` is set, if the node orders it (an image that is written ordered or of
+/// an ordered sketch, or a difference with an ordered first operand), if it is empty, or if it has one entry at the
 /// greatest theta.
 ///
-/// An operator is built first; then its parts are evaluated and passed to it one by one: a leaf's sketch as it is, any
-/// other as a compact sketch, which needn't be ordered. A `Lower` among a union's parts lowers its nominal entries at
-/// that place.
+/// An operator is built first; then its parts are evaluated and passed to it one by one: a leaf's sketch as it is,
+/// any other as a compact sketch, which needn't be ordered. A `Lower` among a union's parts lowers its nominal
+/// entries at that place.
 ///
 /// Refused with `OutOfMemory`. Refused with `InvalidArgument` if a setting is out of range: if the seed hash is 0, if
-/// some node's `lg_k` isn't from 4 to 26 or its start isn't from 1 to `MAX_THETA`, or if a `Lower` isn't from 4 to the
-/// least `lg_k` before it in its union. Refused with `Policy` only if a policy refuses some leaf's step, or the entries
-/// that the first parts of some union or intersection have at a key. The first in the order of work counts:
+/// some node's `lg_k` isn't from 4 to 26 or its start isn't from 1 to `MAX_THETA`, or if a `Lower` isn't from 4 to
+/// the least `lg_k` before it in its union. Refused with `Policy` only if a policy refuses some leaf's step, or the
+/// entries that the first parts of some union or intersection have at a key. The first in the order of work counts:
 /// `InvalidArgument` is returned only if no policy refuses a leaf's step before the first setting out of range, and
 /// `Policy` only for a refusal before it.
 pub fn evaluate<F: SketchFamily<A>, A: Allocator + Clone, B: Allocator>(
@@ -46,8 +47,10 @@ pub fn evaluate<F: SketchFamily<A>, A: Allocator + Clone, B: Allocator>(
         IfOk result (IsResultOf (F.rules family.now).key F.state F.listed f (seed_hash seed) plan.now ordered) }
     ensures seeded { OnOk result (0 < seed_hash seed) }
     ensures accepted { OnOk result (plan_refusal seed plan.now ≡ None) }
-    ensures unrefused { OnOk result (must_refuse (folds_of (F.rules family.now) (F.refuses family.now)) seed plan.now ≡ false) }
-    ensures refused { IfErr result (IsPlanRefused (folds_of (F.rules family.now) (F.refuses family.now)) F.strict seed plan.now) }
+    ensures unrefused { OnOk result
+        (must_refuse (folds_of (F.rules family.now) (F.refuses family.now)) seed plan.now ≡ false) }
+    ensures refused { IfErr result
+        (IsPlanRefused (folds_of (F.rules family.now) (F.refuses family.now)) F.strict seed plan.now) }
 {
     match plan {
         Plan::Leaf { lg_k, start, steps } => {
@@ -96,7 +99,8 @@ pub fn evaluate<F: SketchFamily<A>, A: Allocator + Clone, B: Allocator>(
     }
 }
 
-/// The result of a node as a compact sketch; a leaf's is ordered if `ordered` is set. Refused with `OutOfMemory` alone.
+/// The result of a node as a compact sketch; a leaf's is ordered if `ordered` is set. Refused with `OutOfMemory`
+/// alone.
 pub fn compacted<F: SketchFamily<A>, A: Allocator>(
     family: &F,
     evaluated: Evaluated<F::Sketch, F::Compact>,
@@ -149,10 +153,13 @@ fn updated<F: SketchFamily<A>, A: Allocator + Clone>(
         IfOk result (λ s. sketch_in_folds (F.state s) ≡ leaf f.key f.step_of (2 ^ lg_k) start steps.now) }
     ensures seed { IfOk result (λ s. (F.state s).map.seed_hash ≡ seed_hash seed) }
     ensures accepted { OnOk result (settings_refusal lg_k start seed ≡ None) }
-    ensures unrefused { OnOk result (steps_refused (folds_of (F.rules family.now) (F.refuses family.now)) (2 ^ lg_k) start steps.now ≡ false) }
+    ensures unrefused { OnOk result
+        (steps_refused (folds_of (F.rules family.now) (F.refuses family.now)) (2 ^ lg_k) start steps.now ≡ false) }
     ensures refused { let f = folds_of (F.rules family.now) (F.refuses family.now) in
         let own = settings_refusal lg_k start seed in
-        IfErr result (λ e. (own ≡ Some e) ⊎ RefusedFor e F.strict ((own ≡ None) × IsTrue (steps_refused f (2 ^ lg_k) start steps.now))) }
+        IfErr result (λ e.
+        (own ≡ Some e)
+        ⊎ RefusedFor e F.strict ((own ≡ None) × IsTrue (steps_refused f (2 ^ lg_k) start steps.now))) }
 {
     let mut sketch = family.new_sketch(alloc.clone()?, lg_k, start, seed)?;
     'steps: for step in steps {
@@ -174,12 +181,15 @@ fn apply<F: SketchFamily<A>, A: Allocator>(
         let old = (F.state sketch.old).map in
         unmarked (F.state sketch.new).map.kept
         ≡ leaf_step f.key f.step_of (2 ^ old.lg_nom) old.start step.now (unmarked old.kept)) }
-    ensures made_with { OnOk result ((F.state sketch.new).map ≡ record (F.state sketch.old).map { kept = (F.state sketch.new).map.kept }) }
-    ensures empty { OnOk result ((F.state sketch.new).empty ≡ not (updated_step step.now (not (F.state sketch.old).empty))) }
+    ensures made_with { OnOk result
+        ((F.state sketch.new).map ≡ record (F.state sketch.old).map { kept = (F.state sketch.new).map.kept }) }
+    ensures empty { OnOk result
+        ((F.state sketch.new).empty ≡ not (updated_step step.now (not (F.state sketch.old).empty))) }
     ensures unrefused { let f = folds_of (F.rules family.now) (F.refuses family.now) in
         OnOk result (step_refused f step.now (unmarked (F.state sketch.old).map.kept) ≡ false) }
     ensures refused { let f = folds_of (F.rules family.now) (F.refuses family.now) in
-        IfErr result (λ e. RefusedFor e F.strict (IsTrue (step_refused f step.now (unmarked (F.state sketch.old).map.kept)))) }
+        IfErr result (λ e.
+        RefusedFor e F.strict (IsTrue (step_refused f step.now (unmarked (F.state sketch.old).map.kept)))) }
 {
     match step {
         Step::Add(hash, value) => family.add(sketch, *hash, *value),

@@ -1,5 +1,6 @@
 //! The calls of a family of sketches that plans need.
-ghost use Rattle.std.specs.Prelude.{◌≡◌, ◌<◌, ◌||◌, ◌^◌, true, false, not, None, Some, [], IfOk, IfErr, OnOk, option_map};
+ghost use Rattle.std.specs.Prelude.{◌≡◌, ◌<◌, ◌||◌, ◌^◌, true, false, not, None, Some, [], IfOk, IfErr, OnOk};
+ghost use Rattle.std.specs.Prelude.{option_map};
 ghost use Rattle.sketch_base.specs.Seed.{seed_hash};
 ghost use Rattle.core_compact.specs.CompactState.{IsAnswer};
 ghost use Rattle.core_laws.specs.Settings.{settings_refusal};
@@ -21,8 +22,8 @@ use core_laws::SketchEntry;
 use sketch_base::Error;
 use std::alloc::Allocator;
 
-/// A family of sketches and its operators, by their public calls. Its contracts are those of the calls, in terms of any
-/// family. Values are given in folds, and no fold here is a mark.
+/// A family of sketches and its operators, by their public calls. Its contracts are those of the calls, in terms of
+/// any family. Values are given in folds, and no fold here is a mark.
 pub trait SketchFamily<A: Allocator> {
     /// A retained entry.
     type Entry: SketchEntry;
@@ -76,8 +77,8 @@ pub trait SketchFamily<A: Allocator> {
 
     ghost made_intersection: { Self → Self.Intersection → Type 0 };
 
-    /// A new sketch. Refused with `InvalidArgument` for an `lg_k` that isn't from 4 to 26, a `start` that isn't from 1 to
-    /// `MAX_THETA` or a seed whose seed hash is 0, and with `OutOfMemory`.
+    /// A new sketch. Refused with `InvalidArgument` for an `lg_k` that isn't from 4 to 26, a `start` that isn't from
+    /// 1 to `MAX_THETA` or a seed whose seed hash is 0, and with `OutOfMemory`.
     fn new_sketch(&self, alloc: A, lg_k: u8, start: u64, seed: u64) -> Result<Self::Sketch, Error>
         ensures own { IfOk result (made_sketch self.now) }
         ensures empty { IfOk result (λ s. (state s).empty ≡ true) }
@@ -108,7 +109,8 @@ pub trait SketchFamily<A: Allocator> {
         requires own { made_sketch self.now sketch.old }
         ensures still { made_sketch self.now sketch.new }
         ensures same_emptiness { (state sketch.new).empty ≡ (state sketch.old).empty }
-        ensures after { OnOk result ((state sketch.new).map ≡ trimmed_table (rules self.now).key (state sketch.old).map) }
+        ensures after { OnOk result
+            ((state sketch.new).map ≡ trimmed_table (rules self.now).key (state sketch.old).map) }
         ensures refused { Refuses result None true };
 
     /// Makes a sketch empty again.
@@ -125,16 +127,16 @@ pub trait SketchFamily<A: Allocator> {
             (listed c)) }
         ensures refused { Refuses result None true };
 
-    /// A new union. Refused with `InvalidArgument` for an `lg_k` that isn't from 4 to 26, a `start` that isn't from 1 to
-    /// `MAX_THETA` or a seed whose seed hash is 0, and with `OutOfMemory`.
+    /// A new union. Refused with `InvalidArgument` for an `lg_k` that isn't from 4 to 26, a `start` that isn't from 1
+    /// to `MAX_THETA` or a seed whose seed hash is 0, and with `OutOfMemory`.
     fn new_union(&self, alloc: A, lg_k: u8, start: u64, seed: u64) -> Result<Self::Union, Error>
         ensures own { IfOk result (made_union self.now) }
         ensures made { IfOk result (λ u. united u ≡ empty_union lg_k start (seed_hash seed) tt) }
         ensures holds { IfOk result (λ u. holds self.now u []) }
         ensures refused { Refuses result (settings_refusal lg_k start seed) true };
 
-    /// Merges a part of the union's seed into a union that has not failed. Refused with `OutOfMemory`, or with `Policy`
-    /// if the joined whole maps of the union and the part have a mark. If refused, the union's contents are
+    /// Merges a part of the union's seed into a union that has not failed. Refused with `OutOfMemory`, or with
+    /// `Policy` if the joined whole maps of the union and the part have a mark. If refused, the union's contents are
     /// unspecified.
     fn join(
         &self,
@@ -142,7 +144,8 @@ pub trait SketchFamily<A: Allocator> {
         part: &Evaluated<Self::Sketch, Self::Compact>,
     ) -> Result<(), Error>
         requires own { made_union self.now union.old }
-        requires same_seed { (united union.old).seed_hash ≡ (part_result (rules self.now).key state listed part.now).seed_hash }
+        requires same_seed { (united union.old).seed_hash
+            ≡ (part_result (rules self.now).key state listed part.now).seed_hash }
         requires at_work { (united union.old).failed ≡ false }
         ensures still { made_union self.now union.new }
         ensures joins { OnOk result (
@@ -159,8 +162,8 @@ pub trait SketchFamily<A: Allocator> {
             MarksJoined (folds_of (rules self.now) (refuses self.now)) (holds self.now union.old)
             (part_result (rules self.now).key state listed part.now).value)) };
 
-    /// Lowers the nominal entries of a union that has not failed. Refused with `InvalidArgument` if `lg_k` isn't from 4
-    /// to the union's, and with `OutOfMemory`. If refused, the union's contents are unspecified.
+    /// Lowers the nominal entries of a union that has not failed. Refused with `InvalidArgument` if `lg_k` isn't from
+    /// 4 to the union's, and with `OutOfMemory`. If refused, the union's contents are unspecified.
     fn lower(&self, union: &mut Self::Union, lg_k: u8) -> Result<(), Error>
         requires own { made_union self.now union.old }
         requires at_work { (united union.old).failed ≡ false }
@@ -168,8 +171,10 @@ pub trait SketchFamily<A: Allocator> {
         ensures cuts { OnOk result (
             union_value (rules self.now).key (united union.new)
             ≡ cut_value (rules self.now).key (2 ^ lg_k) (union_value (rules self.now).key (united union.old))) }
-        ensures made_with { OnOk result (united union.new ≡ record (united union.old) { content = (united union.new).content; lg_k = lg_k }) }
-        ensures holds { OnOk result ((whole : List (Fold Self.Entry)) → holds self.now union.old whole → holds self.now union.new whole) }
+        ensures made_with { OnOk result
+            (united union.new ≡ record (united union.old) { content = (united union.new).content; lg_k = lg_k }) }
+        ensures holds { OnOk result
+            ((whole : List (Fold Self.Entry)) → holds self.now union.old whole → holds self.now union.new whole) }
         ensures refused { Refuses result (lower_refusal (united union.old) lg_k) true };
 
     /// The value of a union that has not failed. Refused with `OutOfMemory` alone.
@@ -194,7 +199,8 @@ pub trait SketchFamily<A: Allocator> {
         part: &Evaluated<Self::Sketch, Self::Compact>,
     ) -> Result<(), Error>
         requires own { made_intersection self.now intersection.old }
-        requires same_seed { (met intersection.old).seed_hash ≡ (part_result (rules self.now).key state listed part.now).seed_hash }
+        requires same_seed { (met intersection.old).seed_hash
+            ≡ (part_result (rules self.now).key state listed part.now).seed_hash }
         ensures still { made_intersection self.now intersection.new }
         ensures meets { OnOk result (
             let f = folds_of (rules self.now) (refuses self.now) in
@@ -202,7 +208,8 @@ pub trait SketchFamily<A: Allocator> {
             ≡ Some (
             meet_next f.key f.merges (option_map unmarked_value (met intersection.old).result)
             (part_result (rules self.now).key state listed part.now).value)) }
-        ensures made_with { OnOk result (met intersection.new ≡ record (met intersection.old) { result = (met intersection.new).result }) }
+        ensures made_with { OnOk result
+            (met intersection.new ≡ record (met intersection.old) { result = (met intersection.new).result }) }
         ensures refused { IfErr result (λ e.
             RefusedFor e strict (
             MarksMet (folds_of (rules self.now) (refuses self.now))
@@ -225,8 +232,8 @@ pub trait SketchFamily<A: Allocator> {
         ensures ok { IfOk result (λ d. difference_seed d ≡ seed_hash seed) }
         ensures refused { Refuses result (seed_refusal seed) true };
 
-    /// The difference of two parts of this seed, ordered if `ordered` is set or the first part is ordered. Refused with
-    /// `OutOfMemory` alone.
+    /// The difference of two parts of this seed, ordered if `ordered` is set or the first part is ordered. Refused
+    /// with `OutOfMemory` alone.
     fn a_not_b(
         &self,
         difference: &Self::Difference,
@@ -235,8 +242,10 @@ pub trait SketchFamily<A: Allocator> {
         second: &Evaluated<Self::Sketch, Self::Compact>,
         ordered: bool,
     ) -> Result<Self::Compact, Error>
-        requires first_seed { difference_seed difference.now ≡ (part_result (rules self.now).key state listed first.now).seed_hash }
-        requires second_seed { difference_seed difference.now ≡ (part_result (rules self.now).key state listed second.now).seed_hash }
+        requires first_seed { difference_seed difference.now
+            ≡ (part_result (rules self.now).key state listed first.now).seed_hash }
+        requires second_seed { difference_seed difference.now
+            ≡ (part_result (rules self.now).key state listed second.now).seed_hash }
         ensures ok { let f = folds_of (rules self.now) (refuses self.now) in
             let a = part_result (rules self.now).key state listed first.now in
             let b = part_result (rules self.now).key state listed second.now in

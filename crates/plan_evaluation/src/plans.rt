@@ -1,5 +1,6 @@
 //! The one sketch that a plan is evaluated to, in each family.
-ghost use Rattle.std.specs.Prelude.{◌≡◌, ◌^◌, ◌++◌, ◌∷◌, ◌⊎◌, [], ℕ, List, map, true, false, Some, None, IfOk, IfErr, OnOk};
+ghost use Rattle.std.specs.Prelude.{◌≡◌, ◌^◌, ◌++◌, ◌∷◌, ◌⊎◌, [], ℕ, List, map, true, false, Some, None, IfOk};
+ghost use Rattle.std.specs.Prelude.{IfErr, OnOk};
 ghost use Rattle.sketch_base.specs.Seed.{seed_hash};
 ghost use Rattle.sketch_base.specs.declared.error.ErrorKind.TheVariants.{OutOfMemory, Policy};
 ghost use Rattle.core_laws.specs.Cuts.{cut};
@@ -38,19 +39,20 @@ use tuple_sketches::{
     SummaryUpdatePolicy, TupleSummaryValue,
 };
 
-/// The sketch of a plan under a seed, ordered. Its value is the plan's: it retains all of the whole streams' map below its
-/// theta, and if it is empty that map has no keys.
+/// The sketch of a plan under a seed, ordered. Its value is the plan's: it retains all of the whole streams' map
+/// below its theta, and if it is empty that map has no keys.
 ///
 /// If the plan merges leaves of one start, the value is the k-minimum (the k least, and as theta the next one) of the
-/// hashes from 1 on that were added after the leaves' last resets, whatever the order and grouping, and whether or not
-/// parts go through images; k is the root's nominal entries, the least that it is lowered to. The premises: the root is
-/// a union, perhaps through images; every leaf and every other union has at least the root's nominal entries, counting
-/// for a union the least that it is lowered to; no union starts below the leaves; and some leaf is updated after its
-/// last reset. If the plan is a leaf that isn't empty and whose last step is a trim, the value is the k-minimum of the
-/// hashes that were added to it.
+/// hashes from 1 on that were added after the leaves' last resets, whatever the order and grouping, and whether or
+/// not parts go through images; k is the root's nominal entries, the least that it is lowered to. The premises: the
+/// root is a union, perhaps through images; every leaf and every other union has at least the root's nominal entries,
+/// counting for a union the least that it is lowered to; no union starts below the leaves; and some leaf is updated
+/// after its last reset. If the plan is a leaf that isn't empty and whose last step is a trim, the value is the
+/// k-minimum of the hashes that were added to it.
 ///
-/// Refused with `InvalidArgument` if the seed hash is 0, if some node's `lg_k` is outside 4 to 26 or its start outside 1 to
-/// `MAX_THETA`, or if a union is lowered to an `lg_k` outside 4 to its least so far; and with `OutOfMemory`.
+/// Refused with `InvalidArgument` if the seed hash is 0, if some node's `lg_k` is outside 4 to 26 or its start
+/// outside 1 to `MAX_THETA`, or if a union is lowered to an `lg_k` outside 4 to its least so far; and with
+/// `OutOfMemory`.
 pub fn evaluate_theta<A: Allocator + Clone, B: Allocator>(
     alloc: A,
     plan: &Plan<(), B>,
@@ -71,25 +73,25 @@ pub fn evaluate_theta<A: Allocator + Clone, B: Allocator>(
     ordered(&ThetaFamily, &alloc, plan, seed)
 }
 
-/// The sketch of a plan of tuples under a seed and two policies, ordered. In leaves, `update_policy` makes and updates
-/// summaries. In unions and intersections, `combine_policy` combines those of a key that parts share, in the order of
-/// the parts. Its value is the plan's, in folds without a mark: it retains all of the whole streams' map below its
-/// theta, and if it is empty that map has no keys.
+/// The sketch of a plan of tuples under a seed and two policies, ordered. In leaves, `update_policy` makes and
+/// updates summaries. In unions and intersections, `combine_policy` combines those of a key that parts share, in the
+/// order of the parts. Its value is the plan's, in folds without a mark: it retains all of the whole streams' map
+/// below its theta, and if it is empty that map has no keys.
 ///
-/// If the plan merges leaves under the premises of `evaluate_theta`, its keys and theta are the k-minimum of the hashes
-/// that were added, whatever the policies and whatever the thetas of leaves and inner unions, and each key has its fold
-/// over the whole streams. If the plan is a leaf that isn't empty and whose last step is a trim, they are the k-minimum
-/// of those that were added to it.
+/// If the plan merges leaves under the premises of `evaluate_theta`, its keys and theta are the k-minimum of the
+/// hashes that were added, whatever the policies and whatever the thetas of leaves and inner unions, and each key has
+/// its fold over the whole streams. If the plan is a leaf that isn't empty and whose last step is a trim, they are
+/// the k-minimum of those that were added to it.
 ///
 /// Refused with `OutOfMemory`, also if a summary can't be written to an image. Refused with `InvalidArgument` if a
 /// setting is out of range: if the seed hash is 0, if some node's `lg_k` is outside 4 to 26 or its start outside 1 to
 /// `MAX_THETA`, or if a union is lowered to an `lg_k` outside 4 to its least so far. Refused with `Policy` only if
-/// `update_policy` refuses some leaf's step, or the policies refuse, at some key, what the first parts of some union or
-/// intersection have there.
+/// `update_policy` refuses some leaf's step, or the policies refuse, at some key, what the first parts of some union
+/// or intersection have there.
 ///
 /// The first in the order of work counts. `InvalidArgument` is returned only if `update_policy` refuses no step of a
-/// leaf before the first setting out of range, and `Policy` only for a refusal before it. If `update_policy` refuses a
-/// leaf's step before it, the call is refused with `Policy` or `OutOfMemory`. Clones of summaries must equal their
+/// leaf before the first setting out of range, and `Policy` only for a refusal before it. If `update_policy` refuses
+/// a leaf's step before it, the call is refused with `Policy` or `OutOfMemory`. Clones of summaries must equal their
 /// originals.
 pub fn evaluate_tuple<
     S: Clone + TupleSummaryValue<A>,
@@ -106,9 +108,11 @@ pub fn evaluate_tuple<
     combine_policy: Q,
 ) -> Result<CompactTupleSketch<S, A>, Error>
     requires clones_equal { ClonesEqual S.is_clone }
-    ensures value { let f = tuple_folds (P.creates update_policy) (P.updates update_policy) (Q.combines combine_policy) in
+    ensures value { let f = tuple_folds (P.creates update_policy) (P.updates update_policy)
+        (Q.combines combine_policy) in
         IfOk result (IsOrderedSketchOf tuple_key (value_in f plan.now) (seed_hash seed)) }
-    ensures whole { let f = tuple_folds (P.creates update_policy) (P.updates update_policy) (Q.combines combine_policy) in
+    ensures whole { let f = tuple_folds (P.creates update_policy) (P.updates update_policy)
+        (Q.combines combine_policy) in
         OnOk result (IsAllBelow f.key (value_in f plan.now) (whole_in f plan.now)) }
     ensures merged { (lg_k start : ℕ)
         → IsMergePlan lg_k start plan.now
@@ -117,7 +121,8 @@ pub fn evaluate_tuple<
     ensures kmin { (lg_k start : ℕ)
         → IsMergePlan lg_k start plan.now
         → IfOk result (HasKeys tuple_key (kmin (2 ^ lg_k) (whole_hashes plan.now) start)) }
-    ensures lawful { let f = tuple_folds (P.creates update_policy) (P.updates update_policy) (Q.combines combine_policy) in
+    ensures lawful { let f = tuple_folds (P.creates update_policy) (P.updates update_policy)
+        (Q.combines combine_policy) in
         OnOk result (IsLawfulLeaf f plan.now) }
     ensures trimmed { (lg_k start : ℕ) (steps : List (LeafStep U))
         → plan.now ≡ plans.Leaf lg_k start (steps ++ Trim ∷ [])
@@ -129,9 +134,11 @@ pub fn evaluate_tuple<
         → is_updated steps false ≡ true
         → IfOk result (HasKeys tuple_key (kmin (2 ^ lg_k) (added steps) start)) }
     ensures accepted { OnOk result (plan_refusal seed plan.now ≡ None) }
-    ensures unrefused { let f = tuple_folds (P.creates update_policy) (P.updates update_policy) (Q.combines combine_policy) in
+    ensures unrefused { let f = tuple_folds (P.creates update_policy) (P.updates update_policy)
+        (Q.combines combine_policy) in
         OnOk result (must_refuse f seed plan.now ≡ false) }
-    ensures refused { let f = tuple_folds (P.creates update_policy) (P.updates update_policy) (Q.combines combine_policy) in
+    ensures refused { let f = tuple_folds (P.creates update_policy) (P.updates update_policy)
+        (Q.combines combine_policy) in
         IfErr result (λ e.
         ((plan_refusal seed plan.now ≡ Some e) × (must_refuse f seed plan.now ≡ false))
         ⊎ ((e ≡ OutOfMemory) ⊎ ((e ≡ Policy) × (may_refuse f seed plan.now ≡ true)))) }
@@ -140,25 +147,29 @@ pub fn evaluate_tuple<
     ordered(&family, &alloc, plan, seed)
 }
 
-/// The sketch of a plan of tuples whose summaries are sums: a leaf adds each value of a key to its summary, from 0 on, and
-/// operators add the summaries of a key that their parts share.
+/// The sketch of a plan of tuples whose summaries are sums: a leaf adds each value of a key to its summary, from 0
+/// on, and operators add the summaries of a key that their parts share.
 ///
 /// If the plan has only leaves, unions and images, each summary is the whole-number sum of all values that were added
 /// at its key after the leaves' last resets, in any order and grouping. The rest is as for `evaluate_tuple`: if the
 /// plan merges leaves, or is a leaf that ends by a trim, the keys and theta are the k-minimum of the hashes that were
 /// added.
 ///
-/// Refused as `evaluate_tuple` is: with `Policy` only if a sum is out of the bounds of its type in some leaf, at a hash
-/// that the leaf then retains, or over the first parts of some union or intersection; and with `InvalidArgument` only
-/// if no leaf before the first setting out of range has such a sum. Clones of summaries must equal their originals.
+/// Refused as `evaluate_tuple` is: with `Policy` only if a sum is out of the bounds of its type in some leaf, at a
+/// hash that the leaf then retains, or over the first parts of some union or intersection; and with `InvalidArgument`
+/// only if no leaf before the first setting out of range has such a sum. Clones of summaries must equal their
+/// originals.
 pub fn evaluate_sums<
     S: CheckedSum + TupleSummaryValue<A> + Drop,
     A: Allocator + Clone,
     B: Allocator,
 >(alloc: A, plan: &Plan<S, B>, seed: u64) -> Result<CompactTupleSketch<S, A>, Error>
     requires clones_equal { ClonesEqual S.is_clone }
-    ensures value { IfOk result (IsOrderedSketchOf tuple_key (value_in (tuple_folds (Some S.ZERO) S.sums S.sums) plan.now) (seed_hash seed)) }
-    ensures whole { let f = tuple_folds (Some S.ZERO) S.sums S.sums in OnOk result (IsAllBelow f.key (value_in f plan.now) (whole_in f plan.now)) }
+    ensures value { IfOk result
+        (IsOrderedSketchOf tuple_key (value_in (tuple_folds (Some S.ZERO) S.sums S.sums) plan.now)
+        (seed_hash seed)) }
+    ensures whole { let f = tuple_folds (Some S.ZERO) S.sums S.sums in
+        OnOk result (IsAllBelow f.key (value_in f plan.now) (whole_in f plan.now)) }
     ensures merged { (lg_k start : ℕ)
         → IsMergePlan lg_k start plan.now
         → let f = tuple_folds (Some S.ZERO) S.sums S.sums in
@@ -201,10 +212,13 @@ fn ordered<F: SketchFamily<A>, A: Allocator + Clone, B: Allocator>(
     seed: u64,
 ) -> Result<F::Compact, Error>
     ensures value { let f = folds_of (F.rules family.now) (F.refuses family.now) in
-        IfOk result (λ c. IsOrderedSketchOf (F.rules family.now).key (value_in f plan.now) (seed_hash seed) (F.listed c)) }
+        IfOk result (λ c.
+        IsOrderedSketchOf (F.rules family.now).key (value_in f plan.now) (seed_hash seed) (F.listed c)) }
     ensures accepted { OnOk result (plan_refusal seed plan.now ≡ None) }
-    ensures unrefused { OnOk result (must_refuse (folds_of (F.rules family.now) (F.refuses family.now)) seed plan.now ≡ false) }
-    ensures refused { IfErr result (IsPlanRefused (folds_of (F.rules family.now) (F.refuses family.now)) F.strict seed plan.now) }
+    ensures unrefused { OnOk result
+        (must_refuse (folds_of (F.rules family.now) (F.refuses family.now)) seed plan.now ≡ false) }
+    ensures refused { IfErr result
+        (IsPlanRefused (folds_of (F.rules family.now) (F.refuses family.now)) F.strict seed plan.now) }
 {
     let sketch = evaluate(family, alloc, plan, seed, true)?;
     compacted(family, sketch, true)

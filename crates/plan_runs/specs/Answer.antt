@@ -1,5 +1,6 @@
 -- The output for an input.
-use Rattle.std.specs.Prelude.{◌≡◌, ℕ, List, [], ◌∷◌, ◌++◌, ◌+◌, ◌/◌, ◌%◌, length, codes, IsTrue, Bool, true, false, if◌then◌else◌, Option, Some, None, decimal}
+use Rattle.std.specs.Prelude.{◌≡◌, ℕ, List, [], ◌∷◌, ◌++◌, ◌+◌, ◌/◌, ◌%◌, length, codes, IsTrue, Bool, true, false}
+use Rattle.std.specs.Prelude.{if◌then◌else◌, Option, Some, None, decimal}
 use Rattle.std.specs.Int.{w64, to_le_bytes}
 use Rattle.std.specs.Char.{digit_char}
 use Rattle.std.specs.List.{flat_map}
@@ -138,8 +139,17 @@ policy_must_refuse (Tuple form plan) = must_refuse sums DEFAULT_UPDATE_SEED plan
 -- the status and the text that may answer an input: the answer to its command, an evaluation refused for an argument or
 -- by a policy, the first fault of the input, or refused memory
 pub data Answers (Z : Type 0) (input : List ℕ) : ℕ → List ℕ → Type 0 where
-  shows : (command : Command Z) (text : List ℕ) → Spells input command → command_refusal command ≡ None → policy_must_refuse command ≡ false → Shows command text → Answers Z input 0 text
-  argument : (command : Command Z) → Spells input command → command_refusal command ≡ Some InvalidArgument → policy_must_refuse command ≡ false → Answers Z input 1 argument_line
+  shows : (command : Command Z) (text : List ℕ)
+      → Spells input command
+      → command_refusal command ≡ None
+      → policy_must_refuse command ≡ false
+      → Shows command text
+      → Answers Z input 0 text
+  argument : (command : Command Z)
+      → Spells input command
+      → command_refusal command ≡ Some InvalidArgument
+      → policy_must_refuse command ≡ false
+      → Answers Z input 1 argument_line
   policy : (command : Command Z) → Spells input command → IsTrue (policy_may_refuse command) → Answers Z input 1 policy_line
   wrong : (line : ℕ) → fault_of input ≡ Some (Syntax line) → Answers Z input 1 (fault_line line (codes "syntax"))
   too_deep : (line : ℕ) → fault_of input ≡ Some (Limit line) → Answers Z input 1 (fault_line line (codes "limit"))

@@ -2,7 +2,8 @@
 ghost use Rattle.std.specs.Prelude.{◌≡◌, ◌++◌, Some, OnOk, IfOk, string_bytes};
 ghost use Rattle.plan_text.specs.declared.command.Command.TheVariants.{Theta, Tuple};
 ghost use Rattle.core_state.specs.View.{shows, sequence};
-ghost use Rattle.plan_runs.specs.Answer.{Texts, Answers, AnswersCommand, theta_texts, tuple_texts, shown_head, show_lines, hex_byte, hex_line, sketch_text, fault_line, refusal_line};
+ghost use Rattle.plan_runs.specs.Answer.{Texts, Answers, AnswersCommand, theta_texts, tuple_texts, shown_head};
+ghost use Rattle.plan_runs.specs.Answer.{show_lines, hex_byte, hex_line, sketch_text, fault_line, refusal_line};
 
 use core_operators::EntrySketch;
 use core_slots::{SlotEntry, ThetaEntry, TupleEntry};

@@ -1,6 +1,6 @@
 //! A whole run of a command over a reader and a writer: the text of a plan is read to its end, read as a command and
-//! evaluated, and one answer is written, or the first fault. The program `sketchtool` makes one run, over standard input
-//! and output.
+//! evaluated, and one answer is written, or the first fault. The program `sketchtool` makes one run, over standard
+//! input and output.
 //!
 //! ```
 //! let ending = run(rt.alloc(), &mut rt.stdin(), &mut rt.stdout());

@@ -92,7 +92,8 @@ pub fn run<A: Allocator + Clone, R: Read, W: Write>(
     reader: &mut R,
     writer: &mut W,
 ) -> Ending
-    ensures answered { IfSome (R.remaining reader.old) (λ input. EndsRun A input result (W.contents writer.old) (W.contents writer.new)) }
+    ensures answered { IfSome (R.remaining reader.old) (λ input.
+        EndsRun A input result (W.contents writer.old) (W.contents writer.new)) }
     ensures unread { result ≡ Ending.NotRead → Keeps (W.contents writer.old) (W.contents writer.new) }
 {
     let Ok(own) = alloc.clone() else {

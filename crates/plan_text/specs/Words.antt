@@ -1,6 +1,7 @@
 -- The words of a line, and the numbers among them.
 use Rattle.core_laws.specs.declared.TheConstants.{MAX_THETA}
-use Rattle.std.specs.Prelude.{◌≡◌, IsTrue, ℕ, ◌^◌, List, [], ◌++◌, ◌==◌, ◌&&◌, nat_lt, nat_le, length, codes, Option, Some, None, if◌then◌else◌}
+use Rattle.std.specs.Prelude.{◌≡◌, IsTrue, ℕ, ◌^◌, List, [], ◌++◌, ◌==◌, ◌&&◌, nat_lt, nat_le, length, codes}
+use Rattle.std.specs.Prelude.{Option, Some, None, if◌then◌else◌}
 use Rattle.std.specs.List.{slice_split}
 use Rattle.std.specs.Str.{bytes_eq, all_ascii_digits}
 use Rattle.std.specs.Str.Parse.{digits_value}

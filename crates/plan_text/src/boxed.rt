@@ -27,8 +27,8 @@ impl<T, A: Allocator> Model for Boxed<T, A> {
 impl<T: Levels + Drop, A: Allocator> Boxed<T, A> {
     /// Wraps a box.
     ///
-    /// Refused with `InvalidArgument` if the item has `MAX_LEVELS` levels, since a plan around it would have one more; then
-    /// the box is dropped.
+    /// Refused with `InvalidArgument` if the item has `MAX_LEVELS` levels, since a plan around it would have one
+    /// more; then the box is dropped.
     pub fn from_box(content: Box<T, A>) -> Result<Boxed<T, A>, Error>
         ensures { MatchResult result (λ b. b ≡ content.value) (λ e. e ≡ InvalidArgument) }
     {

@@ -1,6 +1,7 @@
 //! Reading a plan, node by node.
 ghost use Rattle.std.specs.Prelude.{◌≡◌, ◌∷◌, Some, None, MatchOption, IfOk};
-ghost use Rattle.plan_text.specs.Reading.{says, first_of, lower_first, Gives, command_in, node_in, step_in, first_as, step_at, many, part_at, node_at, plan_at};
+ghost use Rattle.plan_text.specs.Reading.{says, first_of, lower_first, Gives, command_in, node_in, step_in};
+ghost use Rattle.plan_text.specs.Reading.{first_as, step_at, many, part_at, node_at, plan_at};
 
 use crate::boxed::Boxed;
 use crate::command::{Family, Form};
@@ -104,7 +105,8 @@ fn steps<'a, V: StepValue, A: Allocator + Clone>(
 
 /// If the first line lowers a union's nominal entries: the logarithm that it lowers them to, and the text after it.
 fn lower_line(text: &[u8]) -> Option<(u8, &[u8])>
-    ensures { MatchOption result (lower_first (says text.now) ≡ None) (λ x. lower_first (says text.now) ≡ Some (x.0, says x.1.now)) }
+    ensures { MatchOption result (lower_first (says text.now) ≡ None) (λ x.
+        lower_first (says text.now) ≡ Some (x.0, says x.1.now)) }
 {
     let (line, rest) = next(text)?;
     match line {
@@ -144,7 +146,8 @@ fn parts<'a, V: StepValue, A: Allocator + Clone>(
     Ok((parts, rest))
 }
 
-/// A part of a union: a line that lowers its nominal entries, or a plan of at most `levels` levels; and the text after it.
+/// A part of a union: a line that lowers its nominal entries, or a plan of at most `levels` levels; and the text
+/// after it.
 #[cycle(nodes)]
 fn union_part<'a, V: StepValue, A: Allocator + Clone>(
     alloc: &A,
@@ -170,7 +173,8 @@ fn union_parts<'a, V: StepValue, A: Allocator + Clone>(
     count: u32,
     text: &'a [u8],
 ) -> Result<(Vec<UnionPart<Plan<V, A>>, A>, &'a [u8]), ReadError<'a>>
-    ensures { Gives (λ x. (x.0.items, says x.1.now)) result (many (part_at (plan_at V.as_value levels)) count (says text.now)) }
+    ensures { Gives (λ x. (x.0.items, says x.1.now)) result
+        (many (part_at (plan_at V.as_value levels)) count (says text.now)) }
 {
     let mut parts = Vec::new(alloc.clone()?);
     let mut rest = text;
@@ -206,7 +210,8 @@ fn node<'a, V: StepValue, A: Allocator + Clone>(
     line: NodeLine,
     text: &'a [u8],
 ) -> Result<(Plan<V, A>, &'a [u8]), ReadError<'a>>
-    ensures { Gives (λ x. (x.0, says x.1.now)) result (node_at V.as_value (plan_at V.as_value levels) line (says text.now)) }
+    ensures { Gives (λ x. (x.0, says x.1.now)) result
+        (node_at V.as_value (plan_at V.as_value levels) line (says text.now)) }
 {
     match line {
         NodeLine::Leaf { lg_k, start, count } => {

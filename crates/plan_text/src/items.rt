@@ -8,9 +8,9 @@ use sketch_base::{Error, ErrorKind};
 use std::alloc::{Allocator, Global};
 use std::marker::Model;
 
-/// A vector whose value in contracts is the list of its items, so that two plans are equal if they have equal steps and
-/// parts. It wraps a `Vec` and returns it, so it allocates nothing itself. It stores the greatest number of levels
-/// among its items: at most 63.
+/// A vector whose value in contracts is the list of its items, so that two plans are equal if they have equal steps
+/// and parts. It wraps a `Vec` and returns it, so it allocates nothing itself. It stores the greatest number of
+/// levels among its items: at most 63.
 #[derive(Drop)]
 pub struct Items<T, A: Allocator = Global> {
     items: Vec<T, A>,
@@ -41,8 +41,8 @@ fn greatest_levels<T: Levels>(items: &[T]) -> u8 {
 impl<T: Levels + Drop, A: Allocator> Items<T, A> {
     /// Wraps the parts of a plan and checks each one.
     ///
-    /// Refused with `InvalidArgument` if a part has `MAX_LEVELS` levels, since a plan around it would have one more; then all
-    /// parts are dropped.
+    /// Refused with `InvalidArgument` if a part has `MAX_LEVELS` levels, since a plan around it would have one more;
+    /// then all parts are dropped.
     pub fn from_parts(parts: Vec<T, A>) -> Result<Items<T, A>, Error>
         ensures { MatchResult result (λ it. it ≡ parts.items) (λ e. e ≡ InvalidArgument) }
     {

@@ -1,13 +1,14 @@
 //! Laws of the definitions.
-ghost use Rattle.plan_text.specs.First.{NothingBegins, FrontBegins, FrontIsFaultless, DeepBegins, DeepIsDeep, MissingBegins, FaultlessIsSpelled, SpellsOne};
+ghost use Rattle.plan_text.specs.First.{NothingBegins, FrontBegins, FrontIsFaultless, DeepBegins, DeepIsDeep};
+ghost use Rattle.plan_text.specs.First.{MissingBegins, FaultlessIsSpelled, SpellsOne};
 
 /// The fault of a text is its first one, measured by commands with any number of levels. By clauses:
 ///
 /// - `nothing`: no command begins with the lines up to a syntax fault.
 /// - `front`: the lines before a fault begin a command.
 /// - `faultless`: the lines before a fault have none, whatever follows them.
-/// - `deep` and `deeper`: the lines up to a node of one level too many begin a command, and each such command has more
-///   than 64 levels.
+/// - `deep` and `deeper`: the lines up to a node of one level too many begin a command, and each such command has
+///   more than 64 levels.
 /// - `missing`: lines after which one is missing spell no command, but begin one.
 pub fn first_fault()
     ensures nothing { NothingBegins }

@@ -10,8 +10,8 @@ use std::alloc::{Allocator, Global};
 pub enum UnionPart<P> {
     /// A plan to unite.
     Of(P),
-    /// Lowers the union's nominal entries from here on to 2 to this power. The power must be from 4 to the least before
-    /// it in its union, or the evaluation is refused.
+    /// Lowers the union's nominal entries from here on to 2 to this power. The power must be from 4 to the least
+    /// before it in its union, or the evaluation is refused.
     Lower(u8),
 }
 

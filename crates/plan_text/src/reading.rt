@@ -57,13 +57,16 @@ fn line_number(text: &[u8], rest: &[u8]) -> u64
 /// The command that a text spells, or the text's first fault. Nothing is evaluated.
 ///
 /// Each line ends in an LF, which the last one may lack; words are separated by one space. The text is read once, the
-/// first line of each part of a union twice, and all of it once more to number the line of a fault. No line is copied.
+/// first line of each part of a union twice, and all of it once more to number the line of a fault. No line is
+/// copied.
 ///
-/// Refused with `Fault::Syntax` or `Fault::Limit` if the text spells no command, and with `Fault::Memory`, in place of any
-/// other answer, if memory was refused.
+/// Refused with `Fault::Syntax` or `Fault::Limit` if the text spells no command, and with `Fault::Memory`, in place
+/// of any other answer, if memory was refused.
 pub fn read_plan<A: Allocator + Clone>(alloc: A, text: &[u8]) -> Result<Command<A>, Fault>
     ensures spelled { IfOk result (λ command. Spells text.now command) }
-    ensures only { (command : Commands A) → Spells text.now command → MatchResult result (λ c. c ≡ command) (λ e. e ≡ Fault.Memory) }
+    ensures only { (command : Commands A)
+        → Spells text.now command
+        → MatchResult result (λ c. c ≡ command) (λ e. e ≡ Fault.Memory) }
     ensures fault { IfErr result (IsFault text.now) }
 {
     match command(&alloc, text) {

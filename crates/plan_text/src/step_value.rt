@@ -9,11 +9,12 @@ use crate::plan::Step;
 pub trait StepValue: Copy + Drop {
     ghost use Rattle.std.specs.Prelude.{ℕ, Option};
 
-    /// The value for the number after a hash (`None`: no number follows); `None` if this kind of value has no such line.
+    /// The value for the number after a hash (`None`: no number follows); `None` if this kind of value has no such
+    /// line.
     ghost as_value: { Option ℕ → Option Self };
 
-    /// The value for the number after a hash, `None` if no number follows. Returns `None` if this kind of value is not
-    /// written so.
+    /// The value for the number after a hash, `None` if no number follows. Returns `None` if this kind of value is
+    /// not written so.
     fn from_number(number: Option<u64>) -> Option<Self>
         ensures { result ≡ as_value number };
 }

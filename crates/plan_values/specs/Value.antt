@@ -1,5 +1,6 @@
 -- The value of a plan.
-use Rattle.std.specs.Prelude.{ℕ, ◌^◌, ◌&&◌, nat_le, Bool, true, List, [], ◌∷◌, is_none, if◌then◌else◌, Option, Some, None}
+use Rattle.std.specs.Prelude.{ℕ, ◌^◌, ◌&&◌, nat_le, Bool, true, List, [], ◌∷◌, is_none, if◌then◌else◌, Option, Some}
+use Rattle.std.specs.Prelude.{None}
 use Rattle.std.specs.List.{list_all}
 use Rattle.sketch_base.specs.declared.error.ErrorKind.{ErrorKind}
 use Rattle.sketch_base.specs.declared.error.ErrorKind.TheVariants.{InvalidArgument}
@@ -49,7 +50,9 @@ may_be_lowered lg_k (l ∷ ls) = (nat_le MIN_LG_K l && nat_le l lg_k) && may_be_
 -- whether every node of a plan may be built with its settings under a seed, and every union lowered as its parts say
 abbrev pub node_fits : {V Z : Type 0} → (seed : ℕ) → Plan-F V Z Bool → Bool
 node_fits seed (Plan-F.Leaf lg_k start steps) = may_be_built lg_k start seed
-node_fits seed (Plan-F.Union lg_k start parts) = may_be_built lg_k start seed && (may_be_lowered lg_k (lowers_of parts) && list_all (λ fits. fits) (plans_of parts))
+node_fits seed (Plan-F.Union lg_k start parts) =
+    may_be_built lg_k start seed
+    && (may_be_lowered lg_k (lowers_of parts) && list_all (λ fits. fits) (plans_of parts))
 node_fits seed (Plan-F.Meet parts) = may_have_seed seed && list_all (λ fits. fits) parts
 node_fits seed (Plan-F.Minus first second) = may_have_seed seed && (first && second)
 node_fits seed (Plan-F.Via ordered part) = part

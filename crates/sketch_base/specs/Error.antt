@@ -1,7 +1,8 @@
 -- What an error prints.
 use Rattle.std.specs.Prelude.{ℕ, List, codes}
 use Rattle.sketch_base.specs.declared.error.ErrorKind.{ErrorKind}
-use Rattle.sketch_base.specs.declared.error.ErrorKind.TheVariants.{InvalidArgument, InvalidData, OutOfMemory, Policy, Failed}
+use Rattle.sketch_base.specs.declared.error.ErrorKind.TheVariants.{InvalidArgument, InvalidData, OutOfMemory}
+use Rattle.sketch_base.specs.declared.error.ErrorKind.TheVariants.{Policy, Failed}
 
 -- the sentence of each kind
 abbrev pub error_text : ErrorKind → List ℕ

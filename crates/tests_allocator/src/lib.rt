@@ -1,7 +1,8 @@
-//! An allocator for tests: it counts the requests for memory and their bytes, and refuses the requests that a test chooses.
+//! An allocator for tests: it counts the requests for memory and their bytes, and refuses the requests that a test
+//! chooses.
 //!
-//! It takes granted memory from another allocator, and returns each block to it. A test passes it by reference, so that
-//! the test can read the count and choose other requests while the memory is in use.
+//! It takes granted memory from another allocator, and returns each block to it. A test passes it by reference, so
+//! that the test can read the count and choose other requests while the memory is in use.
 #![tactic(auto)]
 
 use std::alloc::{AllocError, Allocator};
@@ -79,8 +80,8 @@ impl<B: Allocator> Refusing<B> {
         self.requests.seen.get()
     }
 
-    /// The bytes of all requests since the last `restart`, including the refused ones; `u64::MAX` if there are more. A
-    /// block that is made larger or smaller counts with its new size.
+    /// The bytes of all requests since the last `restart`, including the refused ones; `u64::MAX` if there are more.
+    /// A block that is made larger or smaller counts with its new size.
     pub fn bytes(&self) -> u64 {
         self.requests.bytes.get()
     }

@@ -75,8 +75,8 @@ pub fn put_theta(text: &mut String, alloc: Global, bytes: &[u8]) -> Result<(), A
     }
 }
 
-/// Appends the tuple sketch of an image, with summaries of type `S`, and the image that it is written as, or why there is
-/// none.
+/// Appends the tuple sketch of an image, with summaries of type `S`, and the image that it is written as, or why
+/// there is none.
 pub fn put_tuple<S: TupleSummaryValue<Global> + Display + Copy>(
     text: &mut String,
     alloc: Global,
@@ -119,8 +119,8 @@ fn put_flaw(text: &mut String, flaw: Flaw) -> Result<(), AllocError> {
     text.push_str(word)
 }
 
-/// Appends what the preamble of bytes says: the length of the image, the number of its hashes, and the flaw for a reader of
-/// the default seed.
+/// Appends what the preamble of bytes says: the length of the image, the number of its hashes, and the flaw for a
+/// reader of the default seed.
 pub fn put_preamble(text: &mut String, bytes: &[u8]) -> Result<(), AllocError> {
     match image_length(bytes) {
         Some(length) => write!(text, "{length} ")?,

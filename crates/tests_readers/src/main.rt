@@ -1,12 +1,12 @@
 //! Prints the answer of a reader of this project for each line of standard input.
 //!
-//! A line is the name of a reader, a space, and bytes in hexadecimal. `theta`, `u32`, `i32`, `u64` and `i64` read an image,
-//! of a theta sketch or of a tuple sketch with summaries of that type; `preamble` reports what an image's first bytes say;
-//! `plan` reads and evaluates the text of a plan, `expression` reads a set expression, and `arguments` and `message` the
-//! arguments of `distinct`, with a blank between two. The answer is one line: a sketch, and of an image the image that it is
-//! written as; the steps of an expression; a request; or the reason why there is none. A text's fault is reported with its
-//! place.
-//! `checks/` compares these answers with those of readers that share no code with this project.
+//! A line is the name of a reader, a space, and bytes in hexadecimal. `theta`, `u32`, `i32`, `u64` and `i64` read an
+//! image, of a theta sketch or of a tuple sketch with summaries of that type; `preamble` reports what an image's
+//! first bytes say; `plan` reads and evaluates the text of a plan, `expression` reads a set expression, and
+//! `arguments` and `message` the arguments of `distinct`, with a blank between two. The answer is one line: a sketch,
+//! and of an image the image that it is written as; the steps of an expression; a request; or the reason why there is
+//! none. A text's fault is reported with its place. `checks/` compares these answers with those of readers that share
+//! no code with this project.
 #![tactic(auto)]
 
 mod arguments;

@@ -1,5 +1,5 @@
-//! Set operations on images whose hashes were chosen: they are multiples of 2^40, so in a table of slots they would all
-//! share one path. A table of 300,000 of them would take minutes, and a test may take one.
+//! Set operations on images whose hashes were chosen: they are multiples of 2^40, so in a table of slots they would
+//! all share one path. A table of 300,000 of them would take minutes, and a test may take one.
 use sketch_base::Error;
 use std::alloc::{AllocError, Global};
 use std::process::Abort;
@@ -12,7 +12,8 @@ const COUNT: u64 = 300_000;
 /// The first number of the second image. The images share the rest of the first.
 const SECOND: u64 = 100_001;
 
-/// An image of COUNT hashes, the multiples of 2^40 from a first one on: ascending and flagged as ordered, or descending.
+/// An image of COUNT hashes, the multiples of 2^40 from a first one on: ascending and flagged as ordered, or
+/// descending.
 fn image_from(alloc: Global, first: u64, ordered: bool) -> Result<Vec<u8>, AllocError> {
     let mut bytes = Vec::new(alloc);
     let flags = if ordered { 0x1a } else { 0x0a };

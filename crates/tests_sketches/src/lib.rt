@@ -1,6 +1,6 @@
-//! Tests over the public calls of the theta sketches, and of the hash below them, which no line of calls can make: the
-//! documented example, a closure that captures a value, numbers of each type that a hasher writes, images whose hashes
-//! were chosen, a large table, and readers of lines that fail once.
+//! Tests over the public calls of the theta sketches, and of the hash below them, which no line of calls can make:
+//! the documented example, a closure that captures a value, numbers of each type that a hasher writes, images whose
+//! hashes were chosen, a large table, and readers of lines that fail once.
 #![tactic(auto)]
 
 #[cfg(test)]

@@ -1,5 +1,5 @@
-//! Tests over the public calls of the tuple sketches, with types of a caller's own: summaries that borrow, a policy of the
-//! documented example, and a summary of variable width.
+//! Tests over the public calls of the tuple sketches, with types of a caller's own: summaries that borrow, a policy
+//! of the documented example, and a summary of variable width.
 #![tactic(auto)]
 
 #[cfg(test)]

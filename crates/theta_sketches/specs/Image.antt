@@ -17,7 +17,11 @@ is_vacant p = p.count == 0 && p.theta == MAX_THETA
 -- Versions 1 and 2 with this preamble: the seed hash of the image is checked only if the sketch is not empty.
 pub data ReadsUnflagged (bytes : List ℕ) (p : Preamble) (image_seed_hash h : ℕ) : Compact ℕ → Type 0 where
   vacant_image : p.start ≤ length bytes → is_vacant p ≡ true → ReadsUnflagged bytes p image_seed_hash h (empty_compact h)
-  filled_image : (xs : List ℕ) → is_vacant p ≡ false → image_seed_hash ≡ h → HasEntries hash_key SpellsHash bytes p h xs → ReadsUnflagged bytes p image_seed_hash h (state_after_preamble p h xs)
+  filled_image : (xs : List ℕ)
+      → is_vacant p ≡ false
+      → image_seed_hash ≡ h
+      → HasEntries hash_key SpellsHash bytes p h xs
+      → ReadsUnflagged bytes p image_seed_hash h (state_after_preamble p h xs)
 
 -- A prefix of the bytes spells the sketch, under the reader's seed hash h: a case for each version and count of
 -- preamble longs.

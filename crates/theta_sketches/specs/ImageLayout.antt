@@ -1,5 +1,6 @@
 -- How the bytes before the entries of a theta image are read: the cases of the relation SpellsSketch, as a function.
-use Rattle.std.specs.Prelude.{ℕ, ◌*◌, ◌==◌, ◌&&◌, ◌||◌, not, nat_lt, nat_le, true, List, length, slice_index, Option, Some, None, if◌then◌else◌}
+use Rattle.std.specs.Prelude.{ℕ, ◌*◌, ◌==◌, ◌&&◌, ◌||◌, not, nat_lt, nat_le, true, List, length, slice_index}
+use Rattle.std.specs.Prelude.{Option, Some, None, if◌then◌else◌}
 use Rattle.core_images.specs.Preamble.{announced, seed_hash_at, count_at, theta_at, admitted, flagged_layout}
 use Rattle.core_laws.specs.declared.TheConstants.{MAX_THETA}
 use Rattle.core_images.specs.declared.preamble.Layout.{Layout}

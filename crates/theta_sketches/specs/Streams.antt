@@ -1,6 +1,7 @@
 -- Sketches, views and operators against the streams of hashes that they were given. A stream is a list of hashes, in
 -- their order. The words that a contract needs beside these are named here too.
-use Rattle.std.specs.Prelude.{ℕ, ◌≡◌, ◌≢◌, ◌==◌, ◌^◌, Bool, not, is_some, List, [], ◌∷◌, ◌++◌, filter, find, Option, Some, None}
+use Rattle.std.specs.Prelude.{ℕ, ◌≡◌, ◌≢◌, ◌==◌, ◌^◌, Bool, not, is_some, List, [], ◌∷◌, ◌++◌, filter, find, Option}
+use Rattle.std.specs.Prelude.{Some, None}
 use Rattle.core_compact.specs.CompactState.{compact_value}
 use Rattle.core_laws.specs.Cuts.{Retained}
 use Rattle.core_laws.specs.Entries.{hash_key}
@@ -105,7 +106,10 @@ pub record IsIntersectionOf {P : Type 0} (i : Intersection ℕ P) (streams : Lis
 
 -- a call gave a sketch more hashes, which may depend on its seed, and nothing else
 abbrev pub GivesMore : (old new : Updatable ℕ) → (more : (seed : ℕ) → List ℕ) → Type 0
-GivesMore old new more = (lg_k start seed : ℕ) (hashes : List ℕ) → IsSketchOf lg_k start seed old hashes → IsSketchOf lg_k start seed new (hashes ++ more seed)
+GivesMore old new more =
+    (lg_k start seed : ℕ) (hashes : List ℕ)
+    → IsSketchOf lg_k start seed old hashes
+    → IsSketchOf lg_k start seed new (hashes ++ more seed)
 
 -- a call gave a sketch nothing
 abbrev pub GivesNothing : (old new : Updatable ℕ) → Type 0

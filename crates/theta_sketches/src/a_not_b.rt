@@ -53,7 +53,8 @@ impl ThetaANotB {
         Ok(ThetaANotB { seed_hash })
     }
 
-    /// The hash of the seed of its sketches, of 16 bits. It isn't 0 if `default` or `with_seed` returned the operator.
+    /// The hash of the seed of its sketches, of 16 bits. It isn't 0 if `default` or `with_seed` returned the
+    /// operator.
     pub fn seed_hash(&self) -> u16
         ensures { result ≡ self.now }
     {
@@ -63,9 +64,9 @@ impl ThetaANotB {
     /// Returns the hashes of `a` that `b` lacks, below the lesser theta, in memory of `alloc` or a clone of it.
     ///
     /// If `a` is empty, the result is an empty sketch with the seed hash of `a`, and no seed is checked. If `b` is
-    /// empty, the result has the value of `a`, and the seed of `b` is not checked. If neither is empty, no hash is left
-    /// and the lesser theta is `MAX_THETA`, the result is empty. The result is ordered if `ordered` is true or `a` is
-    /// ordered, if it is empty, or if it has one hash at the greatest theta.
+    /// empty, the result has the value of `a`, and the seed of `b` is not checked. If neither is empty, no hash is
+    /// left and the lesser theta is `MAX_THETA`, the result is empty. The result is ordered if `ordered` is true or
+    /// `a` is ordered, if it is empty, or if it has one hash at the greatest theta.
     ///
     /// Refused with `InvalidArgument` if `a` isn't empty and it, or a `b` that isn't empty, is of another seed, and
     /// with `OutOfMemory`. The inputs don't change.

@@ -76,8 +76,8 @@ impl ThetaSketchBuilder {
         self
     }
 
-    /// Builds an empty sketch in memory of `alloc`. Refused with `InvalidArgument` if a setting is out of range or the
-    /// seed hash is 0, and with `OutOfMemory`.
+    /// Builds an empty sketch in memory of `alloc`. Refused with `InvalidArgument` if a setting is out of range or
+    /// the seed hash is 0, and with `OutOfMemory`.
     pub fn build<A: Allocator + Drop>(self, alloc: A) -> Result<ThetaSketch<A>, Error>
         ensures empty { IfOk result (λ s. s.empty ≡ true) }
         ensures made { IfOk result (λ s. s.map ≡ empty_table self.lg_k self.starting_theta self.seed) }

@@ -52,10 +52,13 @@ impl<A: Allocator> CompactThetaSketch<A> {
     pub fn as_view(&self) -> ThetaSketchView<'_, A>
         ensures shows { view_shows result ≡ shown_of hash_key self.now }
         ensures sequence { view_sequence result ≡ self.now.entries }
-        ensures value { shown_value hash_key (view_shows result) (view_sequence result) ≡ compact_value hash_key self.now }
+        ensures value { shown_value hash_key (view_shows result) (view_sequence result)
+            ≡ compact_value hash_key self.now }
         ensures part { (k start : ℕ) (hashes : List ℕ) → IsPartOf k start (value_of self.now) hashes →
             IsPartOf k start (view_value result) hashes }
-        ensures sample { (hashes : List ℕ) → IsSampleOf (value_of self.now) hashes → IsSampleOf (view_value result) hashes }
+        ensures sample { (hashes : List ℕ)
+            → IsSampleOf (value_of self.now) hashes
+            → IsSampleOf (view_value result) hashes }
     {
         ThetaSketchView::of_compact(&self.state)
     }

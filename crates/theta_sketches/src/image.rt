@@ -1,6 +1,7 @@
 //! Images of theta sketches, in the DataSketches format of family 3. All numbers are little endian.
 //!
-//! Serial version 3 is written and read. Versions 1 and 2 are only read: they have no flags, and their hashes are ordered.
+//! Serial version 3 is written and read. Versions 1 and 2 are only read: they have no flags, and their hashes are
+//! ordered.
 ghost use Rattle.std.specs.Prelude.{◌≡◌, ◌≤◌, ℕ, None, true, length, IfOk, IfErr};
 ghost use Rattle.core_compact.specs.CompactState.{Compact};
 ghost use Rattle.sketch_base.specs.Seed.{seed_hash};
@@ -21,7 +22,8 @@ use std::alloc::Allocator;
 
 /// The layout of an image of version 1 or 2, which have no flags, with this preamble and the seed hash
 /// `image_seed_hash`. No entries at the greatest theta mean the empty sketch, and then the seed hash is not checked.
-/// Otherwise hashes follow, or it is `None` if `image_seed_hash` isn't the reader's seed hash or theta is out of range.
+/// Otherwise hashes follow, or it is `None` if `image_seed_hash` isn't the reader's seed hash or theta is out of
+/// range.
 #[tactic(auto, unfolding(crate::specs::ImageLayout::unflagged_layout))]
 fn unflagged_layout(p: Preamble, image_seed_hash: u16, seed_hash: u16) -> Option<Layout>
     ensures { result ≡ unflagged_layout p image_seed_hash seed_hash }
@@ -35,9 +37,9 @@ fn unflagged_layout(p: Preamble, image_seed_hash: u16, seed_hash: u16) -> Option
     }
 }
 
-/// The layout of an image of version 2. By its preamble longs, of 8 bytes each, it is an empty sketch (1), a sketch at
-/// the greatest theta (2), or one with a theta of its own (3). It is `None` if the bytes end within the preamble, or if
-/// `unflagged_layout` is.
+/// The layout of an image of version 2. By its preamble longs, of 8 bytes each, it is an empty sketch (1), a sketch
+/// at the greatest theta (2), or one with a theta of its own (3). It is `None` if the bytes end within the preamble,
+/// or if `unflagged_layout` is.
 #[tactic(auto, unfolding(crate::specs::ImageLayout::version_2_layout))]
 fn version_2_layout(bytes: &[u8], longs: u8, seed_hash: u16) -> Option<Layout>
     requires whole { 8 ≤ length bytes.now }
@@ -104,7 +106,8 @@ impl<A: Allocator + Clone + Drop> CompactThetaSketch<A> {
         ensures read_back { IfOk result (λ v. (s : Compact ℕ) → Reads v.items self.now.seed_hash s → s ≡ self.now) }
         ensures refused { Refuses result None true }
     {
-        // Called for their clauses alone: the sketch keeps the laws of compact sketches, and its seed hash has 16 bits.
+        // Called for their clauses alone: the sketch keeps the laws of compact sketches, and its seed hash has 16
+        // bits.
         let _ = (self.num_retained(), self.seed_hash());
         let alloc = self.state().allocator().clone()?;
         write_image(alloc, self.state(), Family::THETA, 0)

@@ -1,15 +1,19 @@
 //! Intersections of theta sketches.
-ghost use Rattle.std.specs.Prelude.{◌≡◌, ◌≢◌, ◌∷◌, ◌++◌, ℕ, List, [], Some, None, true, false, is_some, IsSome, IfSome, IfOk, IfErr, OnOk};
+ghost use Rattle.std.specs.Prelude.{◌≡◌, ◌≢◌, ◌∷◌, ◌++◌, ℕ, List, [], Some, None, true, false, is_some, IsSome};
+ghost use Rattle.std.specs.Prelude.{IfSome, IfOk, IfErr, OnOk};
 ghost use Rattle.sketch_base.specs.Seed.{seed_hash};
 ghost use Rattle.sketch_base.specs.declared.seed.TheConstants.{DEFAULT_UPDATE_SEED};
 ghost use Rattle.core_laws.specs.Entries.{hash_key, first_hash};
-ghost use Rattle.core_operators.specs.Intersection.{Intersection, new_intersection, seed_refusal, intersect_refusal, IsAnswerIfAny, IsIntersection, content_of, IsHashIntersectError};
+ghost use Rattle.core_operators.specs.Intersection.{Intersection, new_intersection, seed_refusal};
+ghost use Rattle.core_operators.specs.Intersection.{intersect_refusal, IsAnswerIfAny, IsIntersection, content_of};
+ghost use Rattle.core_operators.specs.Intersection.{IsHashIntersectError};
 ghost use Rattle.core_laws.specs.Operators.{meet_next};
 ghost use Rattle.core_laws.specs.Cuts.{IsRetained};
 ghost use Rattle.core_laws.specs.Refusal.{Refuses};
 ghost use Rattle.core_laws.specs.Shown.{shown_value};
 ghost use Rattle.theta_sketches.specs.View.{view_shows, view_sequence};
-ghost use Rattle.theta_sketches.specs.Streams.{shared_by, set_below, value_of, view_value, IsSampleOf, IsIntersectionOf};
+ghost use Rattle.theta_sketches.specs.Streams.{shared_by, set_below, value_of, view_value, IsSampleOf};
+ghost use Rattle.theta_sketches.specs.Streams.{IsIntersectionOf};
 
 use crate::compact_sketch::CompactThetaSketch;
 use crate::view::ThetaSketchView;
@@ -96,10 +100,11 @@ impl<A: Allocator> ThetaIntersection<A> {
 }
 
 impl<A: Allocator + Clone> ThetaIntersection<A> {
-    /// Intersects with a sketch. The first rule that applies is used: once empty, the intersection accepts every sketch
-    /// unchecked and stays empty; an empty sketch makes it empty, and its seed is not checked; a sketch of another seed
-    /// is refused; the first sketch is copied as it is; with any other sketch, it keeps only the hashes that both have
-    /// below the lesser theta. If both had hashes, none is left and theta is the greatest, the value becomes empty.
+    /// Intersects with a sketch. The first rule that applies is used: once empty, the intersection accepts every
+    /// sketch unchecked and stays empty; an empty sketch makes it empty, and its seed is not checked; a sketch of
+    /// another seed is refused; the first sketch is copied as it is; with any other sketch, it keeps only the hashes
+    /// that both have below the lesser theta. If both had hashes, none is left and theta is the greatest, the value
+    /// becomes empty.
     ///
     /// Refused with `InvalidArgument` for a sketch of another seed, and with `OutOfMemory`; then nothing has changed.
     pub fn update<B: Allocator>(&mut self, sketch: ThetaSketchView<'_, B>) -> Result<(), Error>
@@ -120,13 +125,15 @@ impl<A: Allocator + Clone> ThetaIntersection<A> {
         Ok(())
     }
 
-    /// Returns its value as a compact sketch, or `None` before its first sketch. The result is ordered if `ordered` is
-    /// true, if it is empty, or if it has one hash at the greatest theta. The intersection doesn't change. Refused with
-    /// `OutOfMemory` alone, and only if there is a value.
+    /// Returns its value as a compact sketch, or `None` before its first sketch. The result is ordered if `ordered`
+    /// is true, if it is empty, or if it has one hash at the greatest theta. The intersection doesn't change. Refused
+    /// with `OutOfMemory` alone, and only if there is a value.
     pub fn to_sketch(&self, ordered: bool) -> Result<Option<CompactThetaSketch<A>>, Error>
         ensures ok { IfOk result (IsAnswerIfAny hash_key self.now.result self.now.seed_hash ordered) }
-        ensures found { IfOk result (λ o. (streams : List (List ℕ)) → IsIntersectionOf self.now streams → streams ≢ [] → IsSome o) }
-        ensures sample { IfOk result (λ o. IfSome o (λ s. (streams : List (List ℕ)) → IsIntersectionOf self.now streams →
+        ensures found { IfOk result (λ o.
+            (streams : List (List ℕ)) → IsIntersectionOf self.now streams → streams ≢ [] → IsSome o) }
+        ensures sample { IfOk result
+            (λ o. IfSome o (λ s. (streams : List (List ℕ)) → IsIntersectionOf self.now streams →
             IsSampleOf (value_of s) (shared_by streams))) }
         ensures below { IfOk result (λ o. IfSome o (λ s. (streams : List (List ℕ)) → IsIntersectionOf self.now streams →
             ordered ≡ true → s.entries ≡ set_below s.theta (shared_by streams))) }

@@ -13,7 +13,11 @@ pub fn one_reading()
 /// The image of a sketch is read as that sketch, whatever bytes follow it, if the sketch keeps the laws of compact
 /// sketches and its seed hash is from 1 to 65535.
 pub fn read_again()
-    ensures { (s : Compact ℕ) (rest : List ℕ) → IsCompact hash_key s → 0 < s.seed_hash → s.seed_hash < 2 ^ 16 → Reads (written s ++ rest) s.seed_hash s }
+    ensures { (s : Compact ℕ) (rest : List ℕ)
+        → IsCompact hash_key s
+        → 0 < s.seed_hash
+        → s.seed_hash < 2 ^ 16
+        → Reads (written s ++ rest) s.seed_hash s }
 {}
 
 /// Streams that have the same hashes have one set, whatever their order and however often a hash occurs.
@@ -23,7 +27,11 @@ pub fn same_sets()
 
 /// A part of a stream samples it, and a part for some k is one for fewer.
 pub fn parts_of_streams()
-    ensures sample { (k start : ℕ) (value : Sketch ℕ) (hashes : List ℕ) → IsPartOf k start value hashes → IsSampleOf value hashes }
-    ensures fewer { (k more start : ℕ) (value : Sketch ℕ) (hashes : List ℕ) → k ≤ more → IsPartOf more start value hashes →
+    ensures sample { (k start : ℕ) (value : Sketch ℕ) (hashes : List ℕ)
+        → IsPartOf k start value hashes
+        → IsSampleOf value hashes }
+    ensures fewer { (k more start : ℕ) (value : Sketch ℕ) (hashes : List ℕ)
+        → k ≤ more
+        → IsPartOf more start value hashes →
         IsPartOf k start value hashes }
 {}

@@ -1,16 +1,16 @@
 //! Theta sketches: estimates of how many distinct values a stream has, with compact forms, unions, intersections,
 //! differences and images.
 //!
-//! A theta sketch retains the hashes of a stream's values that are below its theta. If they become too many, it lowers
-//! theta and drops the greatest hashes; the estimate follows from the number of retained hashes and theta. In
-//! contracts, the value of a sketch is Empty, or the retained hashes as a map, ascending, with the theta. The contracts
-//! of most calls are stated on that value. Their clauses `given`, `part` and `sample` say instead which stream of hashes
-//! an object was given, and that it was given nothing else; those of results say what they have of it (`kmin`, `least`,
-//! `below`). A program proves its own results from these clauses alone (docs/use/PROVE-YOUR-PROGRAM.md,
-//! `crates/example_readme`).
+//! A theta sketch retains the hashes of a stream's values that are below its theta. If they become too many, it
+//! lowers theta and drops the greatest hashes; the estimate follows from the number of retained hashes and theta. In
+//! contracts, the value of a sketch is Empty, or the retained hashes as a map, ascending, with the theta. The
+//! contracts of most calls are stated on that value. Their clauses `given`, `part` and `sample` say instead which
+//! stream of hashes an object was given, and that it was given nothing else; those of results say what they have of
+//! it (`kmin`, `least`, `below`). A program proves its own results from these clauses alone
+//! (docs/use/PROVE-YOUR-PROGRAM.md, `crates/example_readme`).
 //!
-//! The visitors of two days: of either day, of both days, of the first day alone. The last lines write an image of the
-//! first result and read it.
+//! The visitors of two days: of either day, of both days, of the first day alone. The last lines write an image of
+//! the first result and read it.
 //!
 //! ```
 //! let mut monday = ThetaSketchBuilder::default().lg_k(14).build(alloc)?;
@@ -34,8 +34,8 @@
 //! let read = CompactThetaSketch::deserialize(alloc, &image)?;
 //! ```
 //!
-//! The visitors of any day, by one call for the compact sketches of all days. If all are ordered, they are read only as
-//! far as the union needs:
+//! The visitors of any day, by one call for the compact sketches of all days. If all are ordered, they are read only
+//! as far as the union needs:
 //!
 //! ```
 //! let mut views = Vec::new(alloc);

@@ -1,10 +1,12 @@
 //! Theta sketches that take updates.
-ghost use Rattle.std.specs.Prelude.{◌≡◌, ◌≢◌, ◌≤◌, ◌==◌, ◌&&◌, ◌^◌, ℕ, List, [], ◌∷◌, true, false, not, nat_lt, None, length, IfOk, OnOk, OnErr};
+ghost use Rattle.std.specs.Prelude.{◌≡◌, ◌≢◌, ◌≤◌, ◌==◌, ◌&&◌, ◌^◌, ℕ, List, [], ◌∷◌, true, false, not, nat_lt};
+ghost use Rattle.std.specs.Prelude.{None, length, IfOk, OnOk, OnErr};
 ghost use Rattle.core_compact.specs.CompactState.{IsAnswer};
 ghost use Rattle.core_laws.specs.Entries.{hash_key, hash_step};
 ghost use Rattle.core_laws.specs.Refusal.{Refuses};
 ghost use Rattle.core_laws.specs.Settings.{settings_refusal};
-ghost use Rattle.core_table.specs.HashTable.{empty_table, after_reset, after_hashes, key_hash, after_hash, hash_allocates, trimmed_table};
+ghost use Rattle.core_table.specs.HashTable.{empty_table, after_reset, after_hashes, key_hash, after_hash};
+ghost use Rattle.core_table.specs.HashTable.{hash_allocates, trimmed_table};
 ghost use Rattle.core_laws.specs.Maps.{IsListing};
 ghost use Rattle.core_laws.specs.Insertion.{upsert_allocates};
 ghost use Rattle.core_state.specs.Updatable.{sketch_value, sketch_shows, StopsUpdates};
@@ -14,7 +16,9 @@ ghost use Rattle.core_laws.specs.Shown.{IsShown, shown_value};
 ghost use Rattle.core_state.specs.Fraction.{decimal_of};
 ghost use Rattle.core_state.specs.declared.fraction.TheConstants.{MAX_PLACES};
 ghost use Rattle.theta_sketches.specs.View.{view_shows, view_sequence};
-ghost use Rattle.theta_sketches.specs.Streams.{value_hash, seed_hash, kmin, set_of, NonEmpty, value_of, view_value, retained_of, IsPartOf, IsSampleOf, IsSketchOf, IsTrimmedOf, GivesMore, GivesNothing};
+ghost use Rattle.theta_sketches.specs.Streams.{value_hash, seed_hash, kmin, set_of, NonEmpty, value_of, view_value};
+ghost use Rattle.theta_sketches.specs.Streams.{retained_of, IsPartOf, IsSampleOf, IsSketchOf, IsTrimmedOf};
+ghost use Rattle.theta_sketches.specs.Streams.{GivesMore, GivesNothing};
 
 use crate::compact_sketch::CompactThetaSketch;
 use crate::view::ThetaSketchView;
@@ -26,8 +30,8 @@ use std::alloc::{Allocator, Global};
 use std::hash::Hash;
 use std::marker::Model;
 
-/// A theta sketch that takes updates. Its value is Empty until the first update is accepted. The crate's documentation
-/// has an example.
+/// A theta sketch that takes updates. Its value is Empty until the first update is accepted. The crate's
+/// documentation has an example.
 #[derive(Drop)]
 pub struct ThetaSketch<A: Allocator = Global> {
     state: UpdatableState<ThetaEntry, A>,
@@ -82,7 +86,8 @@ impl<A: Allocator> ThetaSketch<A> {
         self.state.is_estimation_mode()
     }
 
-    /// The theta of its value, from 1 to `MAX_THETA`. It is `MAX_THETA` for an empty sketch, whatever its starting theta.
+    /// The theta of its value, from 1 to `MAX_THETA`. It is `MAX_THETA` for an empty sketch, whatever its starting
+    /// theta.
     pub fn theta64(&self) -> u64
         ensures { result ≡ theta_of (sketch_value self.now) }
     {
@@ -157,17 +162,19 @@ impl<A: Allocator + Clone> ThetaSketch<A> {
     ///
     /// The value is hashed as std's `Hash` writes its bytes, and after a text `Hash` writes one more byte, 255. So
     /// `update("ann")` has another hash than in libraries of other languages, which hash the bytes of the text alone.
-    /// To get their hash, `write` the bytes to a `MurmurHash3X64128` of the sketch's seed and pass `finish128().0 >> 1`
-    /// to `update_hash`.
+    /// To get their hash, `write` the bytes to a `MurmurHash3X64128` of the sketch's seed and pass `finish128().0 >>
+    /// 1` to `update_hash`.
     #[inline(always)]
     pub fn update<T: Hash + Drop>(&mut self, value: T) -> Result<(), Error>
         ensures nonempty { OnOk result (self.new.empty ≡ false) }
-        ensures after { let h = key_hash self.old.map (T.hash_input value) in OnOk result (self.new.map ≡ after_hash h self.old.map) }
+        ensures after { let h = key_hash self.old.map (T.hash_input value) in
+            OnOk result (self.new.map ≡ after_hash h self.old.map) }
         ensures err_empty { OnErr result (self.new.empty ≡ self.old.empty) }
         ensures err { OnErr result (self.new.map ≡ self.old.map) }
         ensures given { OnOk result (GivesMore self.old self.new (λ seed. value_hash seed (T.hash_input value) ∷ [])) }
         ensures err_given { OnErr result (GivesNothing self.old self.new) }
-        ensures refused { let h = key_hash self.old.map (T.hash_input value) in Refuses result None (hash_allocates h self.old.map.kept) }
+        ensures refused { let h = key_hash self.old.map (T.hash_input value) in
+            Refuses result None (hash_allocates h self.old.map.kept) }
     {
         let hash = self.state.hash(value);
         self.update_hash(hash)
@@ -176,7 +183,8 @@ impl<A: Allocator + Clone> ThetaSketch<A> {
     /// Updates the sketch with a hash of 63 bits. A hash that is 0 or at least theta is not retained, but the sketch
     /// becomes nonempty.
     ///
-    /// Refused with `OutOfMemory` alone, and only for a new hash below theta; then nothing has changed, emptiness included.
+    /// Refused with `OutOfMemory` alone, and only for a new hash below theta; then nothing has changed, emptiness
+    /// included.
     #[inline(always)]
     pub fn update_hash(&mut self, hash: u64) -> Result<(), Error>
         ensures nonempty { OnOk result (self.new.empty ≡ false) }
@@ -194,8 +202,8 @@ impl<A: Allocator + Clone> ThetaSketch<A> {
     /// unless it was empty and there were no hashes.
     ///
     /// If the sketch is large and retains most of the hashes already, this takes half the time of one call per hash,
-    /// because it waits for the slots of up to 256 hashes together. So pass a few hundred at a time. If most hashes are
-    /// new, or the sketch is small, one call per hash is as fast or faster.
+    /// because it waits for the slots of up to 256 hashes together. So pass a few hundred at a time. If most hashes
+    /// are new, or the sketch is small, one call per hash is as fast or faster.
     ///
     /// Refused with `OutOfMemory` alone, and only at a new hash below theta; then exactly the hashes before it have
     /// been inserted. The same call may be repeated: hashes that were inserted before change nothing.
@@ -218,15 +226,16 @@ impl<A: Allocator + Clone> ThetaSketch<A> {
         self.state.insert_hashes(hashes)
     }
 
-    /// If more than k hashes are retained, where k is 2^`lg_k`, lowers theta to the (k+1)th smallest hash and keeps the
-    /// k hashes below it.
+    /// If more than k hashes are retained, where k is 2^`lg_k`, lowers theta to the (k+1)th smallest hash and keeps
+    /// the k hashes below it.
     ///
     /// Refused with `OutOfMemory` alone, and only if more than k are retained; then nothing has changed.
     pub fn trim(&mut self) -> Result<(), Error>
         ensures same_emptiness { self.new.empty ≡ self.old.empty }
         ensures after { OnOk result (self.new.map ≡ trimmed_table hash_key self.old.map) }
         ensures err { OnErr result (self.new.map ≡ self.old.map) }
-        ensures given { OnOk result ((lg_k start seed : ℕ) (hashes : List ℕ) → IsSketchOf lg_k start seed self.old hashes →
+        ensures given { OnOk result
+            ((lg_k start seed : ℕ) (hashes : List ℕ) → IsSketchOf lg_k start seed self.old hashes →
             IsTrimmedOf lg_k start seed self.new hashes) }
         ensures err_given { OnErr result (GivesNothing self.old self.new) }
         ensures refused { Refuses result None (nat_lt (2 ^ self.old.map.lg_nom) (length self.old.map.kept.entries)) }
@@ -234,8 +243,8 @@ impl<A: Allocator + Clone> ThetaSketch<A> {
         self.state.trim()
     }
 
-    /// Returns a copy of the sketch, in memory of clones of its allocator: with the same hashes, theta and settings, but
-    /// perhaps with another order of `iter`. Refused with `OutOfMemory` alone.
+    /// Returns a copy of the sketch, in memory of clones of its allocator: with the same hashes, theta and settings,
+    /// but perhaps with another order of `iter`. Refused with `OutOfMemory` alone.
     pub fn clone(&self) -> Result<Self, Error>
         ensures empty { IfOk result (λ s. s.empty ≡ self.now.empty) }
         ensures copied { IfOk result (λ s. s.map ≡ self.now.map) }
@@ -248,16 +257,21 @@ impl<A: Allocator + Clone> ThetaSketch<A> {
     }
 
     /// Returns a compact sketch of the same value, untrimmed. The result is ordered if `ordered` is true, if it is
-    /// empty, or if it has one hash at the greatest theta. The sketch doesn't change. Refused with `OutOfMemory` alone.
+    /// empty, or if it has one hash at the greatest theta. The sketch doesn't change. Refused with `OutOfMemory`
+    /// alone.
     pub fn compact(&self, ordered: bool) -> Result<CompactThetaSketch<A>, Error>
         ensures ok { IfOk result (IsAnswer hash_key (sketch_value self.now) self.now.map.seed_hash ordered) }
-        ensures part { IfOk result (λ s. (lg_k start seed : ℕ) (hashes : List ℕ) → IsSketchOf lg_k start seed self.now hashes →
+        ensures part { IfOk result
+            (λ s. (lg_k start seed : ℕ) (hashes : List ℕ) → IsSketchOf lg_k start seed self.now hashes →
             IsPartOf (2 ^ lg_k) start (value_of s) hashes) }
-        ensures seeded { IfOk result (λ s. (lg_k start seed : ℕ) (hashes : List ℕ) → IsSketchOf lg_k start seed self.now hashes →
+        ensures seeded { IfOk result
+            (λ s. (lg_k start seed : ℕ) (hashes : List ℕ) → IsSketchOf lg_k start seed self.now hashes →
             s.seed_hash ≡ seed_hash seed) }
-        ensures least { IfOk result (λ s. (lg_k start seed : ℕ) (hashes : List ℕ) → IsTrimmedOf lg_k start seed self.now hashes →
+        ensures least { IfOk result
+            (λ s. (lg_k start seed : ℕ) (hashes : List ℕ) → IsTrimmedOf lg_k start seed self.now hashes →
             hashes ≢ [] → value_of s ≡ NonEmpty (kmin (2 ^ lg_k) (set_of hashes) start)) }
-        ensures kmin { IfOk result (λ s. (lg_k seed : ℕ) (hashes : List ℕ) → IsTrimmedOf lg_k MAX_THETA seed self.now hashes →
+        ensures kmin { IfOk result
+            (λ s. (lg_k seed : ℕ) (hashes : List ℕ) → IsTrimmedOf lg_k MAX_THETA seed self.now hashes →
             ordered ≡ true → retained_of s ≡ kmin (2 ^ lg_k) (set_of hashes) MAX_THETA) }
         ensures refused { Refuses result None true }
     {

@@ -9,8 +9,8 @@ use core_slots::ThetaEntry;
 use core_state::SketchView;
 use std::alloc::{Allocator, Global};
 
-/// A view of a mutable or a compact theta sketch. A view of a mutable sketch is not ordered. The crate's documentation
-/// has an example.
+/// A view of a mutable or a compact theta sketch. A view of a mutable sketch is not ordered. The crate's
+/// documentation has an example.
 pub type ThetaSketchView<'a, A = Global> = SketchView<'a, ThetaEntry, A>;
 
 impl<'a, A: Allocator> From<&'a ThetaSketch<A>> for SketchView<'a, ThetaEntry, A> {

@@ -59,11 +59,11 @@ impl<E: SketchEntry, A: Allocator> Model for PlainTable<E, A> {
 }
 
 impl<E: SketchEntry, A: Allocator> PlainTable<E, A> {
-    /// An empty table of 2^`lg_nom_size` nominal entries, with `lg_nom_size` from 4 to 26, and a starting theta from 1
-    /// to `MAX_THETA`.
+    /// An empty table of 2^`lg_nom_size` nominal entries, with `lg_nom_size` from 4 to 26, and a starting theta from
+    /// 1 to `MAX_THETA`.
     ///
-    /// Refused with `InvalidArgument` outside these ranges, and for a seed whose seed hash is 0. It takes no memory. The
-    /// resize factor has no effect: a list has no slots to grow.
+    /// Refused with `InvalidArgument` outside these ranges, and for a seed whose seed hash is 0. It takes no memory.
+    /// The resize factor has no effect: a list has no slots to grow.
     pub fn new(
         alloc: A,
         lg_nom_size: u8,

@@ -46,7 +46,8 @@ fn run_command<T: ThetaTable<ThetaEntry>>(
     command: TableCommand,
 ) -> Result<TableReply, Error>
     requires of_sketch { MIN_LG_K ≤ (T.map table.old).lg_nom }
-    ensures ok { IfOk result (λ next_reply. next_reply ≡ reply (2 ^ (T.map table.old).lg_nom) (T.map table.old).start command (T.map table.old).kept) }
+    ensures ok { IfOk result (λ next_reply.
+        next_reply ≡ reply (2 ^ (T.map table.old).lg_nom) (T.map table.old).start command (T.map table.old).kept) }
     ensures after { OnOk result (
         T.map table.new
         ≡ record (T.map table.old)

@@ -13,8 +13,8 @@ use core_table::SketchHashTable;
 use sketch_base::Error;
 use std::alloc::Allocator;
 
-/// A table of the entries that a sketch retains below its theta. Contracts see it as a map, ascending by hash, and the
-/// theta.
+/// A table of the entries that a sketch retains below its theta. Contracts see it as a map, ascending by hash, and
+/// the theta.
 ///
 /// With k the nominal entries, 2 to the power of its nominal logarithm and at least 8, an insertion that brings the
 /// retained entries above 15k/8 lowers theta to the (k+1)th smallest hash, and exactly the k entries below it stay.
@@ -24,9 +24,9 @@ pub trait ThetaTable<E: SketchEntry> {
 
     /// Inserts a hash: the step writes the entry that has it, or else makes one. Returns whether it made an entry.
     ///
-    /// A hash that is 0 or at least theta is screened: no step is called, nothing changes and the result is false. Any
-    /// other hash must be retained already, or there must be room for one more entry. Refused with the step's error, or
-    /// with `OutOfMemory`; then nothing has changed.
+    /// A hash that is 0 or at least theta is screened: no step is called, nothing changes and the result is false.
+    /// Any other hash must be retained already, or there must be room for one more entry. Refused with the step's
+    /// error, or with `OutOfMemory`; then nothing has changed.
     fn upsert_entry<S: UpsertStep<E> + Drop>(&mut self, hash: u64, step: S) -> Result<bool, Error>
         requires keeps_hash { (x : E) → E.key x ≡ hash → E.key ((S.means step).writes x) ≡ hash }
         requires makes_hash { ForSome (S.means step).makes (λ x. E.key x ≡ hash) }
@@ -53,7 +53,8 @@ pub trait ThetaTable<E: SketchEntry> {
             ≡ record (map self.old)
             { kept = cut E.key (2 ^ (map self.old).lg_nom) (map self.old).kept.entries (map self.old).kept.theta }) }
         ensures err { OnErr result (map self.new ≡ map self.old) }
-        ensures refused { Refuses result None (nat_lt (2 ^ (map self.old).lg_nom) (length (map self.old).kept.entries)) };
+        ensures refused { Refuses result None
+            (nat_lt (2 ^ (map self.old).lg_nom) (length (map self.old).kept.entries)) };
 
     /// Removes all entries and restores the starting theta. It takes no memory. The table must be one of a sketch,
     /// whose nominal logarithm is at least 4.

@@ -1,8 +1,8 @@
 //! Totals of all values of a stream, by a sketch of sums of it, and the lines that programs print of them.
 //!
-//! A sketch of sums retains some keys of its stream, each with the sum of the key's values. The sum of the sums that it
-//! retains is scaled by the greatest theta over its own theta, and so estimates the total of the values of all keys. If no
-//! key was dropped, theta is the greatest, and the total is exact.
+//! A sketch of sums retains some keys of its stream, each with the sum of the key's values. The sum of the sums that
+//! it retains is scaled by the greatest theta over its own theta, and so estimates the total of the values of all
+//! keys. If no key was dropped, theta is the greatest, and the total is exact.
 #![tactic(auto)]
 
 mod forms;

@@ -32,7 +32,10 @@ has_any (x ∷ xs) = true
 -- a stream of values, each with its hash, under a policy that creates summaries and updates them
 unfoldable pub given_values : {S U : Type 0} → (creates : Option S) → (updates : S → U → Option S) → (stream : List (ℕ × U)) → Given S
 given_values creates updates stream =
-    record { whole = whole (fold_key tuple_key) (folded_of tuple_key (update_step creates updates)) (map (λ p. Add p.0 p.1) stream); any = has_any stream }
+    record {
+      whole = whole (fold_key tuple_key) (folded_of tuple_key (update_step creates updates)) (map (λ p. Add p.0 p.1) stream);
+      any = has_any stream;
+    }
 
 -- the hashes of a stream
 abbrev pub hashes_of : {U : Type 0} → (stream : List (ℕ × U)) → List ℕ

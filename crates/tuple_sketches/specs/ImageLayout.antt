@@ -1,5 +1,6 @@
 -- How the bytes before the entries of a tuple image are read, as a function.
-use Rattle.std.specs.Prelude.{ℕ, ◌==◌, ◌&&◌, ◌||◌, Bool, not, nat_lt, nat_le, List, length, slice_index, Option, None, if◌then◌else◌}
+use Rattle.std.specs.Prelude.{ℕ, ◌==◌, ◌&&◌, ◌||◌, Bool, not, nat_lt, nat_le, List, length, slice_index, Option}
+use Rattle.std.specs.Prelude.{None, if◌then◌else◌}
 use Rattle.core_images.specs.Preamble.{flagged_layout}
 use Rattle.core_images.specs.declared.preamble.Layout.{Layout}
 

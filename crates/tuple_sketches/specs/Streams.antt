@@ -95,7 +95,10 @@ pub record IsIntersectionOf {S P : Type 0} (combines : S → S → Option S) (i 
 
 -- a call gave a sketch more, which may depend on its seed, and nothing else
 abbrev pub GivesMore : {S : Type 0} → (old new : Updatable (TupleEntry S)) → (more : (seed : ℕ) → Given S → Given S) → Type 0
-GivesMore {S} old new more = (lg_k start seed : ℕ) (given : Given S) → IsSketchOf lg_k start seed old given → IsSketchOf lg_k start seed new (more seed given)
+GivesMore {S} old new more =
+    (lg_k start seed : ℕ) (given : Given S)
+    → IsSketchOf lg_k start seed old given
+    → IsSketchOf lg_k start seed new (more seed given)
 
 -- a call gave a sketch nothing
 abbrev pub GivesNothing : {S : Type 0} → (old new : Updatable (TupleEntry S)) → Type 0

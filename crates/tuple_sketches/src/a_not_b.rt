@@ -63,7 +63,8 @@ impl TupleANotB {
         Ok(TupleANotB { seed_hash })
     }
 
-    /// The hash of the seed of its sketches, of 16 bits. It isn't 0 if `default` or `with_seed` returned the operator.
+    /// The hash of the seed of its sketches, of 16 bits. It isn't 0 if `default` or `with_seed` returned the
+    /// operator.
     pub fn seed_hash(&self) -> u16
         ensures { result ≡ self.now }
     {
@@ -75,8 +76,8 @@ impl TupleANotB {
     ///
     /// If `a` is empty, the result is an empty sketch with the seed hash of `a`, and no seed is checked. If `b` is
     /// empty, the result has the value of `a`, and the seed of `b` is not checked. If neither is empty, no entry is
-    /// left and the lesser theta is `MAX_THETA`, the result is empty. The result is ordered if `ordered` is true or `a`
-    /// is ordered, if it is empty, or if it has one entry at the greatest theta.
+    /// left and the lesser theta is `MAX_THETA`, the result is empty. The result is ordered if `ordered` is true or
+    /// `a` is ordered, if it is empty, or if it has one entry at the greatest theta.
     ///
     /// Refused with `InvalidArgument` if `a` isn't empty and it, or a `b` that isn't empty, is of another seed, and
     /// with `OutOfMemory`. The inputs don't change. Clones of summaries must equal their originals.
@@ -88,13 +89,17 @@ impl TupleANotB {
         ordered: bool,
     ) -> Result<CompactTupleSketch<S, A>, Error>
         requires clones_equal { ClonesEqual S.is_clone }
-        ensures ok { IfOk result (IsDifference tuple_key (shows tuple_key a.entry) (sequence a.entry) (shows tuple_key b.entry) ordered) }
-        ensures sample { IfOk result (λ s. (given : Given S) (others : Given T) → IsSampleOf (view_value a.entry) given →
+        ensures ok { IfOk result
+            (IsDifference tuple_key (shows tuple_key a.entry) (sequence a.entry) (shows tuple_key b.entry)
+            ordered) }
+        ensures sample { IfOk result
+            (λ s. (given : Given S) (others : Given T) → IsSampleOf (view_value a.entry) given →
             IsSampleOf (view_value b.entry) others → IsSampleOf (value_of s) (without given others)) }
         ensures below { IfOk result (λ s. (given : Given S) (others : Given T) → IsSampleOf (view_value a.entry) given →
             IsSampleOf (view_value b.entry) others → ordered ≡ true →
             map Value s.entries ≡ below (fold_key tuple_key) (without given others).whole s.theta) }
-        ensures refused { Refuses result (difference_refusal self.now (shows tuple_key a.entry) (shows tuple_key b.entry)) true }
+        ensures refused { Refuses result
+            (difference_refusal self.now (shows tuple_key a.entry) (shows tuple_key b.entry)) true }
     {
         let state = difference_of(alloc, self.seed_hash, a, b, ordered)?;
         Ok(CompactTupleSketch::of_state(state))

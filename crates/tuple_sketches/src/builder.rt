@@ -64,14 +64,17 @@ impl<P> TupleSketchBuilder<P> {
 }
 
 impl<P: SummaryPolicy + Drop> TupleSketchBuilder<P> {
-    /// Builds an empty sketch in memory of `alloc`. Refused with `InvalidArgument` if a setting is out of range or the
-    /// seed hash is 0, and with `OutOfMemory`.
+    /// Builds an empty sketch in memory of `alloc`. Refused with `InvalidArgument` if a setting is out of range or
+    /// the seed hash is 0, and with `OutOfMemory`.
     pub fn build<A: Allocator + Drop>(self, alloc: A) -> Result<TupleSketch<P, A>, Error>
         ensures empty { IfOk result (λ s. s.state.empty ≡ true) }
-        ensures made { IfOk result (λ s. s.state.map ≡ empty_table self.settings.lg_k self.settings.starting_theta self.settings.seed) }
+        ensures made { IfOk result (λ s.
+            s.state.map ≡ empty_table self.settings.lg_k self.settings.starting_theta self.settings.seed) }
         ensures policy { IfOk result (λ s. s.policy ≡ self.policy) }
-        ensures given { IfOk result (λ s. IsSketchOf self.settings.lg_k self.settings.starting_theta self.settings.seed s.state nothing) }
-        ensures refused { Refuses result (settings_refusal self.settings.lg_k self.settings.starting_theta self.settings.seed) true }
+        ensures given { IfOk result (λ s.
+            IsSketchOf self.settings.lg_k self.settings.starting_theta self.settings.seed s.state nothing) }
+        ensures refused { Refuses result
+            (settings_refusal self.settings.lg_k self.settings.starting_theta self.settings.seed) true }
     {
         let TupleSketchBuilder { settings, policy } = self;
         TupleSketch::new(alloc, settings, policy)

@@ -53,9 +53,14 @@ impl<S: Drop, A: Allocator> CompactTupleSketch<S, A> {
     pub fn as_view(&self) -> TupleSketchView<'_, S, A>
         ensures shows { shows tuple_key result ≡ shown_of tuple_key self.now }
         ensures sequence { sequence result ≡ self.now.entries }
-        ensures value { shown_value tuple_key (shows tuple_key result) (sequence result) ≡ compact_value tuple_key self.now }
-        ensures part { (k start : ℕ) (given : Given S) → IsPartOf k start (value_of self.now) given → IsPartOf k start (view_value result) given }
-        ensures sample { (given : Given S) → IsSampleOf (value_of self.now) given → IsSampleOf (view_value result) given }
+        ensures value { shown_value tuple_key (shows tuple_key result) (sequence result)
+            ≡ compact_value tuple_key self.now }
+        ensures part { (k start : ℕ) (given : Given S)
+            → IsPartOf k start (value_of self.now) given
+            → IsPartOf k start (view_value result) given }
+        ensures sample { (given : Given S)
+            → IsSampleOf (value_of self.now) given
+            → IsSampleOf (view_value result) given }
     {
         TupleSketchView::of_compact(&self.state)
     }
@@ -133,8 +138,8 @@ impl<S: Drop, A: Allocator> CompactTupleSketch<S, A> {
 }
 
 impl<S: Clone, A: Allocator + Clone> CompactTupleSketch<S, A> {
-    /// Returns a copy of the sketch, in memory of a clone of its allocator. Refused with `OutOfMemory` alone. Clones of
-    /// summaries must equal their originals.
+    /// Returns a copy of the sketch, in memory of a clone of its allocator. Refused with `OutOfMemory` alone. Clones
+    /// of summaries must equal their originals.
     pub fn clone(&self) -> Result<Self, Error>
         requires clones_equal { ClonesEqual S.is_clone }
         ensures ok { IfOk result (λ s. s ≡ self.now) }

@@ -1,7 +1,7 @@
 //! Images of tuple sketches, in the DataSketches format of family 9. All numbers are little endian.
 //!
-//! Each hash is followed by its summary's bytes. Serial version 3 with sketch type 1 is written; both are read, and so are
-//! the older version 1 and sketch type 5, in any combination.
+//! Each hash is followed by its summary's bytes. Serial version 3 with sketch type 1 is written; both are read, and
+//! so are the older version 1 and sketch type 5, in any combination.
 ghost use Rattle.std.specs.Prelude.{◌≡◌, ◌≤◌, ◌+◌, ◌-◌, ◌^◌, min, None, true, length, IfOk, IfErr, OnOk};
 ghost use Rattle.std.specs.List.{flat_map};
 ghost use Rattle.sketch_base.specs.Seed.{seed_hash};
@@ -81,17 +81,19 @@ fn greatest_size<S: TupleSummaryValue<A>, A: Allocator>(entries: &[TupleEntry<S>
 }
 
 impl<S: TupleSummaryValue<A> + Drop, A: Allocator + Clone + Drop> CompactTupleSketch<S, A> {
-    /// Returns the sketch's image in serial version 3 and sketch type 1, in memory of a clone of its allocator: 8 to 24
-    /// bytes of preamble, then for each entry 8 bytes of its hash and the bytes of its summary. Refused with
+    /// Returns the sketch's image in serial version 3 and sketch type 1, in memory of a clone of its allocator: 8 to
+    /// 24 bytes of preamble, then for each entry 8 bytes of its hash and the bytes of its summary. Refused with
     /// `OutOfMemory` alone, also if writing a summary is refused. If it isn't refused, every summary is a value, so
     /// that the image is read as this sketch.
     pub fn serialize(&self) -> Result<Vec<u8, A>, Error>
         ensures ok { IfOk result (λ v. v.items ≡ written S.text self.now) }
         ensures values { OnOk result (HasValues S.is_value self.now) }
-        ensures read_back { IfOk result (λ v. (s : Compact (TupleEntry S)) → Reads S.spells v.items self.now.seed_hash s → s ≡ self.now) }
+        ensures read_back { IfOk result (λ v.
+            (s : Compact (TupleEntry S)) → Reads S.spells v.items self.now.seed_hash s → s ≡ self.now) }
         ensures refused { Refuses result None true }
     {
-        // Called for their clauses alone: the sketch keeps the laws of compact sketches, and its seed hash has 16 bits.
+        // Called for their clauses alone: the sketch keeps the laws of compact sketches, and its seed hash has 16
+        // bits.
         let _ = (self.num_retained(), self.seed_hash());
         let alloc = self.state().allocator().clone()?;
         let capacity = greatest_size::<S, A>(self.state().retained_entries());
@@ -103,7 +105,8 @@ impl<S: TupleSummaryValue<A> + Drop, A: Allocator + Clone + Drop> CompactTupleSk
     /// Refused as `deserialize_with_seed` is.
     pub fn deserialize(alloc: A, bytes: &[u8]) -> Result<Self, Error>
         ensures ok { IfOk result (λ s. Reads S.spells bytes.now (seed_hash DEFAULT_UPDATE_SEED) s) }
-        ensures refused { IfErr result (λ e. IsRefused e (IsReadable S.spells bytes.now (seed_hash DEFAULT_UPDATE_SEED))) }
+        ensures refused { IfErr result (λ e.
+            IsRefused e (IsReadable S.spells bytes.now (seed_hash DEFAULT_UPDATE_SEED))) }
     {
         CompactTupleSketch::deserialize_with_seed(alloc, bytes, DEFAULT_UPDATE_SEED)
     }
@@ -112,11 +115,11 @@ impl<S: TupleSummaryValue<A> + Drop, A: Allocator + Clone + Drop> CompactTupleSk
     ///
     /// Refused with `InvalidData` only if the seed hash is 0 or the bytes begin with no sketch: they end too early,
     /// have another family, version or sketch type, don't have 1 to 3 preamble longs, have another seed hash, a theta
-    /// that isn't from 1 to `MAX_THETA`, hashes that repeat, don't ascend though the image is ordered, or aren't from 1
-    /// to below theta, or bytes after a hash that spell no summary. The seed hash of an empty sketch is not checked.
-    /// Refused with `OutOfMemory` if memory runs out, also for such bytes: it allocates at most as many entries as the
-    /// bytes could fill with their hashes, eight bytes per entry to compare hashes that don't ascend, and what reading
-    /// summaries allocates.
+    /// that isn't from 1 to `MAX_THETA`, hashes that repeat, don't ascend though the image is ordered, or aren't from
+    /// 1 to below theta, or bytes after a hash that spell no summary. The seed hash of an empty sketch is not
+    /// checked. Refused with `OutOfMemory` if memory runs out, also for such bytes: it allocates at most as many
+    /// entries as the bytes could fill with their hashes, eight bytes per entry to compare hashes that don't ascend,
+    /// and what reading summaries allocates.
     #[tactic(auto, using(crate::proofs::ImageLayouts::tuple_whole))]
     pub fn deserialize_with_seed(alloc: A, bytes: &[u8], seed: u64) -> Result<Self, Error>
         ensures ok { IfOk result (λ s. Reads S.spells bytes.now (seed_hash seed) s) }

@@ -17,7 +17,8 @@ ghost use Rattle.core_slots.specs.Entry.{tuple_key};
 ghost use Rattle.tuple_sketches.specs.Image.{Reads, HasValues, written};
 ghost use Rattle.tuple_sketches.specs.declared.image.TheConstants.{EMPTY_SKETCH_BYTES};
 ghost use Rattle.core_policies.specs.Sums.{unsigned_sum};
-ghost use Rattle.tuple_sketches.specs.Streams.{Sketch, Given, nothing, with_value, given_values, united, least_folds, given_sums, least_sums, IsPartOf, IsSampleOf};
+ghost use Rattle.tuple_sketches.specs.Streams.{Sketch, Given, nothing, with_value, given_values, united};
+ghost use Rattle.tuple_sketches.specs.Streams.{least_folds, given_sums, least_sums, IsPartOf, IsSampleOf};
 
 use core_images::TupleSummaryValue;
 use core_laws::MAX_THETA;
@@ -25,46 +26,82 @@ use std::alloc::Allocator;
 
 /// Updates of folds keep hashes, as updates of entries do.
 pub fn folded_updates_keep_hashes<S, U>()
-    ensures { (creates : Option S) (updates : S → U → Option S) → KeepsHashes (fold_key tuple_key) (folded_of tuple_key (update_step creates updates)) }
+    ensures { (creates : Option S) (updates : S → U → Option S)
+        → KeepsHashes (fold_key tuple_key) (folded_of tuple_key (update_step creates updates)) }
 {}
 
 /// An update that isn't refused is the update of folds.
 pub fn allowed_update<S, U>()
-    ensures { (creates : Option S) (updates : S → U → Option S) (k h : ℕ) (value : U) (v : Retained (TupleEntry S)) → upsert_refusal tuple_key h (update_step creates updates h value) v ≡ None → unmarked (after_upsert tuple_key k h (update_step creates updates h value) v) ≡ after_upsert (fold_key tuple_key) k h (folded_of tuple_key (update_step creates updates) h value) (unmarked v) }
+    ensures { (creates : Option S) (updates : S → U → Option S) (k h : ℕ) (value : U) (v : Retained (TupleEntry S))
+        → upsert_refusal tuple_key h (update_step creates updates h value) v ≡ None
+        → unmarked (after_upsert tuple_key k h (update_step creates updates h value) v)
+        ≡ after_upsert (fold_key tuple_key) k h (folded_of tuple_key (update_step creates updates) h value)
+        (unmarked v) }
 {}
 
-/// A trim of entries is a trim of folds. So each step of a leaf, if it isn't refused, is a step on folds; after a reset
-/// there is nothing to fold.
+/// A trim of entries is a trim of folds. So each step of a leaf, if it isn't refused, is a step on folds; after a
+/// reset there is nothing to fold.
 pub fn trim_of_folds<S>()
-    ensures { (k : ℕ) (v : Retained (TupleEntry S)) → unmarked (cut tuple_key k v.entries v.theta) ≡ cut (fold_key tuple_key) k (unmarked v).entries v.theta }
+    ensures { (k : ℕ) (v : Retained (TupleEntry S))
+        → unmarked (cut tuple_key k v.entries v.theta) ≡ cut (fold_key tuple_key) k (unmarked v).entries v.theta }
 {}
 
-/// If the retained entries are the part of the whole map below theta, a refused update leaves a mark in the whole map.
+/// If the retained entries are the part of the whole map below theta, a refused update leaves a mark in the whole
+/// map.
 pub fn refused_update_marks<S, U>()
-    ensures { (creates : Option S) (updates : S → U → Option S) (h : ℕ) (value : U) (v : Retained (TupleEntry S)) (whole : List (Fold (TupleEntry S))) (kind : ErrorKind) → map Value v.entries ≡ below (fold_key tuple_key) whole v.theta → upsert_refusal tuple_key h (update_step creates updates h value) v ≡ Some kind → has_mark (whole_upsert (fold_key tuple_key) h (folded_of tuple_key (update_step creates updates) h value) whole) ≡ true }
+    ensures { (creates : Option S) (updates : S → U → Option S) (h : ℕ) (value : U) (v : Retained (TupleEntry S))
+        (whole : List (Fold (TupleEntry S))) (kind : ErrorKind)
+        → map Value v.entries ≡ below (fold_key tuple_key) whole v.theta
+        → upsert_refusal tuple_key h (update_step creates updates h value) v ≡ Some kind
+        → has_mark
+        (whole_upsert (fold_key tuple_key) h (folded_of tuple_key (update_step creates updates) h value)
+        whole)
+        ≡ true }
 {}
 
 /// A leaf's value, in folds, is a sample of the whole map of everything added, and its theta is lawful.
 pub fn tuple_leaf_is_sample<S, U>()
-    ensures sample { (creates : Option S) (updates : S → U → Option S) (k start : ℕ) (steps : List (LeafStep U)) → start ≤ MAX_THETA → IsSample (fold_key tuple_key) (leaf (fold_key tuple_key) (folded_of tuple_key (update_step creates updates)) k start steps) (whole (fold_key tuple_key) (folded_of tuple_key (update_step creates updates)) steps) }
-    ensures lawful { (creates : Option S) (updates : S → U → Option S) (k start : ℕ) (steps : List (LeafStep U)) → start ≤ MAX_THETA → IsLawfulValue (fold_key tuple_key) k start (leaf (fold_key tuple_key) (folded_of tuple_key (update_step creates updates)) k start steps) (whole (fold_key tuple_key) (folded_of tuple_key (update_step creates updates)) steps) }
+    ensures sample { (creates : Option S) (updates : S → U → Option S) (k start : ℕ) (steps : List (LeafStep U))
+        → start ≤ MAX_THETA
+        → IsSample (fold_key tuple_key)
+        (leaf (fold_key tuple_key) (folded_of tuple_key (update_step creates updates)) k start steps)
+        (whole (fold_key tuple_key) (folded_of tuple_key (update_step creates updates)) steps) }
+    ensures lawful { (creates : Option S) (updates : S → U → Option S) (k start : ℕ) (steps : List (LeafStep U))
+        → start ≤ MAX_THETA
+        → IsLawfulValue (fold_key tuple_key) k start
+        (leaf (fold_key tuple_key) (folded_of tuple_key (update_step creates updates)) k start steps)
+        (whole (fold_key tuple_key) (folded_of tuple_key (update_step creates updates)) steps) }
 {}
 
 /// A leaf that isn't empty and whose last step is a trim retains the k folds of least hash of the whole map of
 /// everything added.
 pub fn trimmed_tuple_leaf<S, U>()
-    ensures { (creates : Option S) (updates : S → U → Option S) (k start : ℕ) (steps : List (LeafStep U)) → start ≤ MAX_THETA → is_updated steps false ≡ true → leaf (fold_key tuple_key) (folded_of tuple_key (update_step creates updates)) k start (steps ++ Trim ∷ []) ≡ NonEmpty (cut (fold_key tuple_key) k (whole (fold_key tuple_key) (folded_of tuple_key (update_step creates updates)) steps) start) }
+    ensures { (creates : Option S) (updates : S → U → Option S) (k start : ℕ) (steps : List (LeafStep U))
+        → start ≤ MAX_THETA
+        → is_updated steps false ≡ true
+        → leaf (fold_key tuple_key) (folded_of tuple_key (update_step creates updates)) k start (steps ++ Trim ∷ [])
+        ≡ NonEmpty
+        (cut (fold_key tuple_key) k
+        (whole (fold_key tuple_key) (folded_of tuple_key (update_step creates updates)) steps) start) }
 {}
 
 /// Bytes are read as at most one sketch.
 pub fn one_reading<S: TupleSummaryValue<A>, A: Allocator>()
-    ensures { (bytes : List ℕ) (h : ℕ) (r s : Compact (TupleEntry S)) → Reads S.spells bytes h r → Reads S.spells bytes h s → r ≡ s }
+    ensures { (bytes : List ℕ) (h : ℕ) (r s : Compact (TupleEntry S))
+        → Reads S.spells bytes h r
+        → Reads S.spells bytes h s
+        → r ≡ s }
 {}
 
 /// The image of a sketch is read as that sketch, whatever bytes follow it, if the sketch keeps the laws of compact
 /// sketches, its summaries are values, and its seed hash is from 1 to 65535.
 pub fn read_again<S: TupleSummaryValue<A>, A: Allocator>()
-    ensures { (s : Compact (TupleEntry S)) (rest : List ℕ) → IsCompact tuple_key s → HasValues S.is_value s → 0 < s.seed_hash → s.seed_hash < 2 ^ 16 → Reads S.spells (written S.text s ++ rest) s.seed_hash s }
+    ensures { (s : Compact (TupleEntry S)) (rest : List ℕ)
+        → IsCompact tuple_key s
+        → HasValues S.is_value s
+        → 0 < s.seed_hash
+        → s.seed_hash < 2 ^ 16
+        → Reads S.spells (written S.text s ++ rest) s.seed_hash s }
 {}
 
 /// The image of every empty sketch is `EMPTY_SKETCH_BYTES`.
@@ -76,21 +113,28 @@ pub fn written_of_empty<S>()
 pub fn streams_of_values<S, U>()
     ensures none { (creates : Option S) (updates : S → U → Option S) → given_values creates updates [] ≡ nothing }
     ensures one_more { (creates : Option S) (updates : S → U → Option S) (stream : List (ℕ × U)) (value : ℕ × U) →
-        given_values creates updates (stream ++ value ∷ []) ≡ with_value creates updates value.0 value.1 (given_values creates updates stream) }
+        given_values creates updates (stream ++ value ∷ [])
+        ≡ with_value creates updates value.0 value.1 (given_values creates updates stream) }
 {}
 
 /// Sums of two streams, united, are the sums of both streams in turn, the marks of sums of 2^64 or more included. The
-/// entries that are retained of the k least folds of a stream of numbers, none of them a mark, are its k least hashes,
-/// each with the sum of its numbers.
+/// entries that are retained of the k least folds of a stream of numbers, none of them a mark, are its k least
+/// hashes, each with the sum of its numbers.
 pub fn streams_of_sums()
-    ensures united { (stream more : List (ℕ × ℕ)) → united (unsigned_sum 64) (given_sums stream) (given_sums more) ≡ given_sums (stream ++ more) }
-    ensures least { (k start : ℕ) (stream : List (ℕ × ℕ)) (v : Retained (TupleEntry ℕ)) → unmarked v ≡ least_folds k (given_sums stream) start →
+    ensures united { (stream more : List (ℕ × ℕ))
+        → united (unsigned_sum 64) (given_sums stream) (given_sums more) ≡ given_sums (stream ++ more) }
+    ensures least { (k start : ℕ) (stream : List (ℕ × ℕ)) (v : Retained (TupleEntry ℕ))
+        → unmarked v ≡ least_folds k (given_sums stream) start →
         v ≡ least_sums k stream start }
 {}
 
 /// A part samples what was given, and a part for some k is one for fewer.
 pub fn parts_of_streams<S>()
-    ensures sample { (k start : ℕ) (value : Sketch (TupleEntry S)) (given : Given S) → IsPartOf k start value given → IsSampleOf value given }
-    ensures fewer { (k more start : ℕ) (value : Sketch (TupleEntry S)) (given : Given S) → k ≤ more → IsPartOf more start value given →
+    ensures sample { (k start : ℕ) (value : Sketch (TupleEntry S)) (given : Given S)
+        → IsPartOf k start value given
+        → IsSampleOf value given }
+    ensures fewer { (k more start : ℕ) (value : Sketch (TupleEntry S)) (given : Given S)
+        → k ≤ more
+        → IsPartOf more start value given →
         IsPartOf k start value given }
 {}

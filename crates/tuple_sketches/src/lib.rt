@@ -3,12 +3,12 @@
 //!
 //! A tuple sketch retains the entries of smallest hash, all below its theta, as a theta sketch retains hashes; beside
 //! its hash, each entry has a summary. The sketch's policy creates the summary of a new key, updates it with each
-//! value, and may refuse either. Contracts see a sketch's state (whether it is empty, its table as a map with a theta,
-//! and its entries in the order of `iter`) and its policy. The value of a state is `sketch_value`: Empty, or the
-//! retained entries as a map, ascending by hash, with the theta. Over whole streams a tuple sketch is a leaf, as a
-//! theta sketch is, with the folds of each key's values as its entries (`laws`). The clauses `given`, `part` and `sample`
-//! say instead what an object was given, as folds, and that it was given nothing else; those of results say what they
-//! have of it (`kmin`, `least`, `below`). A program proves its own results from these clauses alone
+//! value, and may refuse either. Contracts see a sketch's state (whether it is empty, its table as a map with a
+//! theta, and its entries in the order of `iter`) and its policy. The value of a state is `sketch_value`: Empty, or
+//! the retained entries as a map, ascending by hash, with the theta. Over whole streams a tuple sketch is a leaf, as
+//! a theta sketch is, with the folds of each key's values as its entries (`laws`). The clauses `given`, `part` and
+//! `sample` say instead what an object was given, as folds, and that it was given nothing else; those of results say
+//! what they have of it (`kmin`, `least`, `below`). A program proves its own results from these clauses alone
 //! (docs/use/PROVE-YOUR-PROGRAM.md, `crates/example_spending`).
 //!
 //! A compact sketch of the visits of each visitor, and the sum of all visits, which is 8:

@@ -1,12 +1,14 @@
-//! The operators' calls on views, generic over the entries. The borrow checker accepts a view there if its entries are
-//! a type parameter, but not if they are tuples.
+//! The operators' calls on views, generic over the entries. The borrow checker accepts a view there if its entries
+//! are a type parameter, but not if they are tuples.
 ghost use Rattle.std.specs.Prelude.{◌≡◌, ◌||◌, ◌^◌, [], ◌∷◌, true, None, IfOk, IfErr, OnOk};
 ghost use Rattle.core_laws.specs.Cuts.{IsRetained};
 ghost use Rattle.core_laws.specs.Entries.{ClonesEqual};
 ghost use Rattle.core_laws.specs.Refusal.{Refuses};
 ghost use Rattle.core_operators.specs.ANotB.{difference_refusal, IsDifference};
-ghost use Rattle.core_operators.specs.Intersection.{intersect_refusal, IsIntersection, IsMet, content_of, IsIntersectError};
-ghost use Rattle.core_operators.specs.Union.{update_refusal, IsUnion, JoinsShown, UnitesShown, IsUpdateError, all_empty, update_all_refusal, JoinsAll, UnitesAll, IsUpdateAllError};
+ghost use Rattle.core_operators.specs.Intersection.{intersect_refusal, IsIntersection, IsMet, content_of};
+ghost use Rattle.core_operators.specs.Intersection.{IsIntersectError};
+ghost use Rattle.core_operators.specs.Union.{update_refusal, IsUnion, JoinsShown, UnitesShown, IsUpdateError};
+ghost use Rattle.core_operators.specs.Union.{all_empty, update_all_refusal, JoinsAll, UnitesAll, IsUpdateAllError};
 ghost use Rattle.core_state.specs.View.{shows, sequence};
 
 use core_compact::CompactSketchState;
@@ -118,7 +120,8 @@ where
     E::Slot: 'v,
     F::Slot: 'w,
     requires clones_equal { ClonesEqual E.is_clone }
-    ensures ok { IfOk result (IsDifference E.key (shows E.key a.entry) (sequence a.entry) (shows F.key b.entry) ordered) }
+    ensures ok { IfOk result
+        (IsDifference E.key (shows E.key a.entry) (sequence a.entry) (shows F.key b.entry) ordered) }
     ensures refused { Refuses result (difference_refusal seed_hash (shows E.key a.entry) (shows F.key b.entry)) true }
 {
     a_not_b::compute_with_entries(alloc, seed_hash, a, b, ordered)

@@ -15,7 +15,10 @@ ghost use Rattle.core_state.specs.Fraction.{decimal_of};
 ghost use Rattle.core_state.specs.declared.fraction.TheConstants.{MAX_PLACES};
 ghost use Rattle.core_policies.specs.Summaries.{update_step};
 ghost use Rattle.core_slots.specs.Entry.{tuple_key};
-ghost use Rattle.tuple_sketches.specs.Streams.{NonEmpty, seed_hash, value_hash, Given, nothing, with_value, least_folds, unmarked, unmarked_value, value_of, view_value, retained_of, IsPartOf, IsSampleOf, IsSketchOf, IsTrimmedOf, GivesMore, GivesNothing};
+ghost use Rattle.tuple_sketches.specs.Streams.{NonEmpty, seed_hash, value_hash, Given, nothing, with_value};
+ghost use Rattle.tuple_sketches.specs.Streams.{least_folds, unmarked, unmarked_value, value_of, view_value};
+ghost use Rattle.tuple_sketches.specs.Streams.{retained_of, IsPartOf, IsSampleOf, IsSketchOf, IsTrimmedOf};
+ghost use Rattle.tuple_sketches.specs.Streams.{GivesMore, GivesNothing};
 
 use crate::compact_sketch::CompactTupleSketch;
 use crate::view::{TupleSketchIter, TupleSketchView};
@@ -42,9 +45,11 @@ impl<P: SummaryPolicy, A: Allocator> TupleSketch<P, A> {
         A: Drop,
         P: Drop,
         ensures empty { IfOk result (λ s. s.state.empty ≡ true) }
-        ensures made { IfOk result (λ s. s.state.map ≡ empty_table settings.lg_k settings.starting_theta settings.seed) }
+        ensures made { IfOk result (λ s.
+            s.state.map ≡ empty_table settings.lg_k settings.starting_theta settings.seed) }
         ensures policy { IfOk result (λ s. s.policy ≡ policy) }
-        ensures given { IfOk result (λ s. IsSketchOf settings.lg_k settings.starting_theta settings.seed s.state nothing) }
+        ensures given { IfOk result (λ s.
+            IsSketchOf settings.lg_k settings.starting_theta settings.seed s.state nothing) }
         ensures refused { Refuses result (settings_refusal settings.lg_k settings.starting_theta settings.seed) true }
     {
         let state = UpdatableState::new(alloc, settings)?;
@@ -56,9 +61,11 @@ impl<P: SummaryPolicy, A: Allocator> TupleSketch<P, A> {
         ensures shows { shows tuple_key result ≡ sketch_shows tuple_key self.now.state }
         ensures sequence { sequence result ≡ self.now.state.sequence }
         ensures value { shown_value tuple_key (shows tuple_key result) (sequence result) ≡ sketch_value self.now.state }
-        ensures part { (lg_k start seed : ℕ) (given : Given P.Summary) → IsSketchOf lg_k start seed self.now.state given →
+        ensures part { (lg_k start seed : ℕ) (given : Given P.Summary)
+            → IsSketchOf lg_k start seed self.now.state given →
             IsPartOf (2 ^ lg_k) start (view_value result) given }
-        ensures sample { (lg_k start seed : ℕ) (given : Given P.Summary) → IsSketchOf lg_k start seed self.now.state given →
+        ensures sample { (lg_k start seed : ℕ) (given : Given P.Summary)
+            → IsSketchOf lg_k start seed self.now.state given →
             IsSampleOf (view_value result) given }
     {
         TupleSketchView::of_state(&self.state)
@@ -78,7 +85,8 @@ impl<P: SummaryPolicy, A: Allocator> TupleSketch<P, A> {
         self.state.is_estimation_mode()
     }
 
-    /// The theta of its value, from 1 to `MAX_THETA`. It is `MAX_THETA` for an empty sketch, whatever its starting theta.
+    /// The theta of its value, from 1 to `MAX_THETA`. It is `MAX_THETA` for an empty sketch, whatever its starting
+    /// theta.
     pub fn theta64(&self) -> u64
         ensures { result ≡ theta_of (sketch_value self.now.state) }
     {
@@ -143,7 +151,8 @@ impl<P: SummaryPolicy, A: Allocator> TupleSketch<P, A> {
         ensures empty { self.new.state.empty ≡ true }
         ensures map { self.new.state.map ≡ after_reset self.old.state.map }
         ensures same_policy { self.new.policy ≡ self.old.policy }
-        ensures given { (lg_k start seed : ℕ) (given : Given P.Summary) → IsSketchOf lg_k start seed self.old.state given →
+        ensures given { (lg_k start seed : ℕ) (given : Given P.Summary)
+            → IsSketchOf lg_k start seed self.old.state given →
             IsSketchOf lg_k start seed self.new.state nothing }
     {
         self.state.reset();
@@ -151,7 +160,8 @@ impl<P: SummaryPolicy, A: Allocator> TupleSketch<P, A> {
 }
 
 impl<P: SummaryPolicy, A: Allocator + Clone> TupleSketch<P, A> {
-    /// Updates the summary of a key with a value, by the key's hash under the sketch's seed. Refused as `update_hash` is.
+    /// Updates the summary of a key with a value, by the key's hash under the sketch's seed. Refused as `update_hash`
+    /// is.
     ///
     /// A key is hashed as std's `Hash` writes its bytes, and after a text `Hash` writes one more byte, 255, while
     /// libraries in other languages hash the bytes of the text alone. To get their hash, `write` the bytes to a
@@ -176,7 +186,8 @@ impl<P: SummaryPolicy, A: Allocator + Clone> TupleSketch<P, A> {
         ensures refused { let h = key_hash self.old.state.map (K.hash_input key) in
             let step = update_step (P.creates self.old.policy) (P.updates self.old.policy) h value in
             Refuses result (upsert_refusal tuple_key h step self.old.state.map.kept)
-            (upsert_allocates tuple_key h (record step { allocates = P.takes_memory self.old.policy }) self.old.state.map.kept) }
+            (upsert_allocates tuple_key h (record step { allocates = P.takes_memory self.old.policy })
+            self.old.state.map.kept) }
     {
         let hash = self.state.hash(key);
         self.update_hash(hash, value)
@@ -207,7 +218,8 @@ impl<P: SummaryPolicy, A: Allocator + Clone> TupleSketch<P, A> {
         ensures err_given { OnErr result (GivesNothing self.old.state self.new.state) }
         ensures refused { let step = update_step (P.creates self.old.policy) (P.updates self.old.policy) hash value in
             Refuses result (upsert_refusal tuple_key hash step self.old.state.map.kept)
-            (upsert_allocates tuple_key hash (record step { allocates = P.takes_memory self.old.policy }) self.old.state.map.kept) }
+            (upsert_allocates tuple_key hash (record step { allocates = P.takes_memory self.old.policy })
+            self.old.state.map.kept) }
     {
         let step = UpdateStep::new(&self.policy, hash, value);
         self.state.upsert(hash, step)
@@ -222,10 +234,12 @@ impl<P: SummaryPolicy, A: Allocator + Clone> TupleSketch<P, A> {
         ensures after { OnOk result (self.new.state.map ≡ trimmed_table tuple_key self.old.state.map) }
         ensures same_policy { self.new.policy ≡ self.old.policy }
         ensures err { OnErr result (self.new.state.map ≡ self.old.state.map) }
-        ensures given { OnOk result ((lg_k start seed : ℕ) (given : Given P.Summary) → IsSketchOf lg_k start seed self.old.state given →
+        ensures given { OnOk result
+            ((lg_k start seed : ℕ) (given : Given P.Summary) → IsSketchOf lg_k start seed self.old.state given →
             IsTrimmedOf lg_k start seed self.new.state given) }
         ensures err_given { OnErr result (GivesNothing self.old.state self.new.state) }
-        ensures refused { Refuses result None (nat_lt (2 ^ self.old.state.map.lg_nom) (length self.old.state.map.kept.entries)) }
+        ensures refused { Refuses result None
+            (nat_lt (2 ^ self.old.state.map.lg_nom) (length self.old.state.map.kept.entries)) }
     {
         self.state.trim()
     }
@@ -237,14 +251,19 @@ impl<P: SummaryPolicy, A: Allocator + Clone> TupleSketch<P, A> {
     where
         P::Summary: Clone,
         requires clones_equal { ClonesEqual P.Summary.is_clone }
-        ensures ok { IfOk result (IsAnswer tuple_key (sketch_value self.now.state) self.now.state.map.seed_hash ordered) }
-        ensures part { IfOk result (λ s. (lg_k start seed : ℕ) (given : Given P.Summary) → IsSketchOf lg_k start seed self.now.state given →
+        ensures ok { IfOk result
+            (IsAnswer tuple_key (sketch_value self.now.state) self.now.state.map.seed_hash ordered) }
+        ensures part { IfOk result
+            (λ s. (lg_k start seed : ℕ) (given : Given P.Summary) → IsSketchOf lg_k start seed self.now.state given →
             IsPartOf (2 ^ lg_k) start (value_of s) given) }
-        ensures seeded { IfOk result (λ s. (lg_k start seed : ℕ) (given : Given P.Summary) → IsSketchOf lg_k start seed self.now.state given →
+        ensures seeded { IfOk result
+            (λ s. (lg_k start seed : ℕ) (given : Given P.Summary) → IsSketchOf lg_k start seed self.now.state given →
             s.seed_hash ≡ seed_hash seed) }
-        ensures least { IfOk result (λ s. (lg_k start seed : ℕ) (given : Given P.Summary) → IsTrimmedOf lg_k start seed self.now.state given →
+        ensures least { IfOk result
+            (λ s. (lg_k start seed : ℕ) (given : Given P.Summary) → IsTrimmedOf lg_k start seed self.now.state given →
             given.any ≡ true → unmarked_value (value_of s) ≡ NonEmpty (least_folds (2 ^ lg_k) given start)) }
-        ensures kmin { IfOk result (λ s. (lg_k seed : ℕ) (given : Given P.Summary) → IsTrimmedOf lg_k MAX_THETA seed self.now.state given →
+        ensures kmin { IfOk result
+            (λ s. (lg_k seed : ℕ) (given : Given P.Summary) → IsTrimmedOf lg_k MAX_THETA seed self.now.state given →
             ordered ≡ true → unmarked (retained_of s) ≡ least_folds (2 ^ lg_k) given MAX_THETA) }
         ensures refused { Refuses result None true }
     {

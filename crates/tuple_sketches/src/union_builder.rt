@@ -14,8 +14,8 @@ use core_table::ResizeFactor;
 use sketch_base::Error;
 use std::alloc::Allocator;
 
-/// Builds a tuple union under a policy, which combines the summaries of a key that its inputs share. Nothing is checked
-/// before `build`. The crate's documentation has an example.
+/// Builds a tuple union under a policy, which combines the summaries of a key that its inputs share. Nothing is
+/// checked before `build`. The crate's documentation has an example.
 #[derive(Debug, Clone, Drop)]
 pub struct TupleUnionBuilder<P> {
     settings: Settings,
@@ -76,7 +76,8 @@ impl<P: SummaryPolicy + Drop> TupleUnionBuilder<P> {
         ensures given { IfOk result (λ u.
             IsUnionOf self.settings.lg_k (2 ^ self.settings.lg_k) self.settings.starting_theta u.state nothing) }
         ensures sampled { IfOk result (λ u. IsUnionOfSamples u.state nothing) }
-        ensures refused { Refuses result (settings_refusal self.settings.lg_k self.settings.starting_theta self.settings.seed) true }
+        ensures refused { Refuses result
+            (settings_refusal self.settings.lg_k self.settings.starting_theta self.settings.seed) true }
     {
         let TupleUnionBuilder { settings, policy } = self;
         TupleUnion::new(alloc, settings, policy)

@@ -16,8 +16,8 @@ use std::alloc::{Allocator, Global};
 pub type TupleSketchView<'a, S, A = Global> = SketchView<'a, TupleEntry<S>, A>;
 
 /// Iterates over references to the entries of a tuple sketch, each once: those of a mutable sketch in an unspecified
-/// order, those of a compact sketch in its order. Its `size_hint` is exact over a compact sketch. Over a mutable sketch
-/// the lower bound is 0, and the upper bound is at least the entries left.
+/// order, those of a compact sketch in its order. Its `size_hint` is exact over a compact sketch. Over a mutable
+/// sketch the lower bound is 0, and the upper bound is at least the entries left.
 pub type TupleSketchIter<'a, S> = EntryIter<'a, TupleEntry<S>>;
 
 impl<'a, P: SummaryPolicy, A: Allocator> From<&'a TupleSketch<P, A>>

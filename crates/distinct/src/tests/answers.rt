@@ -8,7 +8,9 @@ ghost use Rattle.distinct_arguments.specs.Faults.{options_of, request_action};
 ghost use Rattle.distinct_arguments.specs.Settings.{chosen_group, chosen_value};
 ghost use Rattle.distinct_inputs.specs.Failures.{chosen_amount};
 ghost use Rattle.distinct_inputs.specs.Lists.{names_of, texts_of};
-ghost use Rattle.distinct_commands.specs.Answers.{sketch_of, IsIntersectionImage, IsDifferenceImage, IsShownOf, IsCountOf, IsSketchText, IsCommandAnswer, IsCombinedText, Performs};
+ghost use Rattle.distinct_commands.specs.Answers.{sketch_of, IsIntersectionImage, IsDifferenceImage, IsShownOf};
+ghost use Rattle.distinct_commands.specs.Answers.{IsCountOf, IsSketchText, IsCommandAnswer, IsCombinedText};
+ghost use Rattle.distinct_commands.specs.Answers.{Performs};
 ghost use Rattle.distinct_commands.specs.Eval.{IsEvaluatedOf};
 ghost use Rattle.distinct_commands.specs.Operands.{words_for, words_in, Suits, SuitsAction};
 ghost use Rattle.distinct_inputs.specs.Images.{images_of, in_form};
@@ -53,7 +55,9 @@ fn answered(
 ) -> Result<Vec<u8>, Failure>
     requires seeded { seed_hash seed ≢ 0 }
     requires suits { Suits command operands }
-    ensures written { IfOk result (λ v. IsCommandAnswer command (options_of options.now) seed (words_in operands.entry) (texts_of texts.now) v.items) }
+    ensures written { IfOk result (λ v.
+        IsCommandAnswer command (options_of options.now) seed (words_in operands.entry) (texts_of texts.now)
+        v.items) }
 {
     let mut bytes = Vec::new(alloc);
     let mut console = Quiet {};
@@ -79,7 +83,9 @@ fn count_of(
     texts: &[Vec<u8>],
 ) -> Result<Vec<u8>, Failure>
     requires seeded { seed_hash seed ≢ 0 }
-    ensures counted { IfOk result (λ v. IsCountOf (chosen_group (options_of options.now)) (options_of options.now) seed (texts_of texts.now) v.items) }
+    ensures counted { IfOk result (λ v.
+        IsCountOf (chosen_group (options_of options.now)) (options_of options.now) seed (texts_of texts.now)
+        v.items) }
 {
     answered(
         alloc,
@@ -123,7 +129,8 @@ fn union_of(
     texts: &[Vec<u8>],
 ) -> Result<Vec<u8>, Failure>
     requires seeded { seed_hash seed ≢ 0 }
-    ensures united { IfOk result (λ v. IsCombinedText options.now.groups Union (options_of options.now) seed (texts_of texts.now) v.items) }
+    ensures united { IfOk result (λ v.
+        IsCombinedText options.now.groups Union (options_of options.now) seed (texts_of texts.now) v.items) }
 {
     let union = Command::Combine(Operator::Union);
     answered(alloc, union, options, seed, Operands::Files(names), texts)
@@ -172,7 +179,8 @@ fn show_of(
     texts: &[Vec<u8>],
 ) -> Result<Vec<u8>, Failure>
     requires seeded { seed_hash seed ≢ 0 }
-    ensures shown { IfOk result (λ v. IsShownOf (options_of options.now) seed (names_of names.now) (texts_of texts.now) v.items) }
+    ensures shown { IfOk result (λ v.
+        IsShownOf (options_of options.now) seed (names_of names.now) (texts_of texts.now) v.items) }
 {
     answered(
         alloc,
@@ -193,7 +201,8 @@ fn eval_of(
     texts: &[Vec<u8>],
 ) -> Result<Vec<u8>, Failure>
     requires seeded { seed_hash seed ≢ 0 }
-    ensures evaluated { IfOk result (λ v. IsEvaluatedOf (options_of options.now) seed (names_of names.now) (texts_of texts.now) v.items) }
+    ensures evaluated { IfOk result (λ v.
+        IsEvaluatedOf (options_of options.now) seed (names_of names.now) (texts_of texts.now) v.items) }
 {
     let expression = only_expression(alloc, names)?;
     let operands = Operands::Expression(&expression);
@@ -209,7 +218,8 @@ fn visits_of(
     texts: &[Vec<u8>],
 ) -> Result<Vec<u8>, Failure>
     requires seeded { seed_hash seed ≢ 0 }
-    ensures visited { IfOk result (λ v. IsVisitsText options.now.sums (options_of options.now) seed (texts_of texts.now) v.items) }
+    ensures visited { IfOk result (λ v.
+        IsVisitsText options.now.sums (options_of options.now) seed (texts_of texts.now) v.items) }
 {
     answered(
         alloc,
@@ -230,7 +240,9 @@ fn sum_of(
     texts: &[Vec<u8>],
 ) -> Result<Vec<u8>, Failure>
     requires seeded { seed_hash seed ≢ 0 }
-    ensures summed { IfOk result (λ v. IsTotalText (chosen_value (options_of options.now)) (options_of options.now) seed (texts_of texts.now) v.items) }
+    ensures summed { IfOk result (λ v.
+        IsTotalText (chosen_value (options_of options.now)) (options_of options.now) seed (texts_of texts.now)
+        v.items) }
 {
     answered(
         alloc,
@@ -291,7 +303,9 @@ fn request_written(
 ) -> Result<Vec<u8>, Failure>
     requires seeded { seed_hash seed ≢ 0 }
     requires suits { SuitsAction (request_action request) operands }
-    ensures { IfOk result (λ v. Performs (request_action request.entry) seed (words_in operands.entry) (texts_of texts.now) (Some []) (Some v.items)) }
+    ensures { IfOk result (λ v.
+        Performs (request_action request.entry) seed (words_in operands.entry) (texts_of texts.now) (Some [])
+        (Some v.items)) }
 {
     let mut bytes = Vec::new(alloc);
     let mut console = Quiet {};
@@ -410,7 +424,8 @@ const LETTERS: [&str; 2] = [
 /// Three keys with amounts, whose total is above 64 bits.
 const AMOUNTS: [&str; 2] = ["ann;5\nbob;7", "bob;0\n;1\nann;18446744073709551610"];
 
-/// Images of three hashes below a theta of 5 * 10^18, and of two below one of 4 * 10^18, by `checks/expected_answers.py`.
+/// Images of three hashes below a theta of 5 * 10^18, and of two below one of 4 * 10^18, by
+/// `checks/expected_answers.py`.
 const ESTIMATING: [&str; 2] = [
     "03030300001acc9303000000000000000000f44482916345000064a7b3b6e00d0000c84e676dc11b000042712836733e",
     "03030300001acc9302000000000000000000909dceda82370000c84e676dc11b00002cf61a24a229",
@@ -434,8 +449,9 @@ const GROUPS: [&str; 2] = [
 /// Users, each with days.
 const DAYS: [&str; 2] = ["x;1\ny;1\nx;2\ny;2", "z;1\ny;3\ny;3\n;5"];
 
-/// Each command; `tests/distinct` has its options. What is to be written of `ESTIMATING` is by `checks/expected_answers.py`, and of
-/// the others by a program in Python that knows the public definition of the hash and the formula of bounds.
+/// Each command; `tests/distinct` has its options. What is to be written of `ESTIMATING` is by
+/// `checks/expected_answers.py`, and of the others by a program in Python that knows the public definition of the
+/// hash and the formula of bounds.
 #[test]
 fn writes_each_answer(rt: HostRuntime) -> Result<(), Fail> {
     for (arguments, texts, line) in [

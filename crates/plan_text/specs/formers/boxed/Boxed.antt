@@ -31,7 +31,9 @@ the_weighed weighed A = weighed
 
 -- the fields: a box (its address, its allocator and its item) and a number of levels
 abbrev field : Type 0 → Former {0}
-field A = via (pair (pair (const (Ptr × A)) this) (const ℕ)) (λ X. Inside X A) (λ X b. (((b.content.ptr, b.content.alloc), b.content.value), b.levels))
+field A =
+    via (pair (pair (const (Ptr × A)) this) (const ℕ)) (λ X. Inside X A) (λ X b.
+    (((b.content.ptr, b.content.alloc), b.content.value), b.levels))
     (λ X v. record { content = record { ptr = v.0.0.0; alloc = v.0.0.1; value = v.0.1 }; levels = v.1 }) (λ X b. refl) (λ X v. refl)
 
 abbrev holding : {A X Y : Type 0} → Box X A → Y → Box Y A
@@ -53,7 +55,8 @@ module _ (A : RattleType) (G : Ghosts A.Denot) (R S : RattleType) (h : R.Denot �
   at T = contract.the_row T A G
 
   pub the_places : Alike R S h → Alike (at R) (at S) ((the_former this A.Denot).map R.Denot S.Denot h)
-  the_places alike = view_places (field A.Denot) this (λ X. view X A.Denot G) (λ X Y k b. refl) (λ X b. refl) R.Denot S.Denot h (at R).coded (at S).coded
+  the_places alike = view_places (field A.Denot) this (λ X. view X A.Denot G) (λ X Y k b. refl) (λ X b. refl)
+      R.Denot S.Denot h (at R).coded (at S).coded
       (invariant R.Denot A.Denot G) (invariant S.Denot A.Denot G) (λ b p q. refl) (λ b p q. refl) (λ b e. tt) (λ b e. tt)
       (over (inside.the_row R A G)) (over (inside.the_row S A G))
       (struct_places (inside.the_type R A G) (inside.the_type S A G) ((λ b. holding b (h b.value)), (λ n. n, tt)) _ (λ b. refl) refl

@@ -45,7 +45,8 @@ module _ (A : RattleType) (G : Ghosts A.Denot) (R S : RattleType) (h : R.Denot �
   at T = contract.the_row T A G
 
   pub the_places : Alike R S h → Alike (at R) (at S) ((the_former this A.Denot).map R.Denot S.Denot h)
-  the_places alike = view_places (field A.Denot) (list this) (λ X. view X A.Denot G) (λ X Y k it. refl) (λ X it. refl) R.Denot S.Denot h (at R).coded (at S).coded
+  the_places alike = view_places (field A.Denot) (list this) (λ X. view X A.Denot G) (λ X Y k it. refl)
+      (λ X it. refl) R.Denot S.Denot h (at R).coded (at S).coded
       (invariant R.Denot A.Denot G) (invariant S.Denot A.Denot G) (λ it p q. refl) (λ it p q. refl) (λ it e. tt) (λ it e. tt)
       (over (inside.the_row R A G)) (over (inside.the_row S A G))
       (struct_places (inside.the_type R A G) (inside.the_type S A G) (vec.mapped h, (λ n. n, tt)) _ (λ it. refl) refl
