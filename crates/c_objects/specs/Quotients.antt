@@ -1,8 +1,8 @@
 -- Fractions as decimal numbers and as whole ones, as they are written for C.
 use Rattle.std.specs.Prelude.{◌≡◌, ◌&&◌, ℕ, Bool, List, nat_le, if◌then◌else◌, Option, Some, None}
-use Rattle.core_state.specs.declared.fraction.TheConstants.{MAX_PLACES}
-use Rattle.core_state.specs.Fraction.{decimal_of}
-use Rattle.estimates.specs.Bounds.{nearest}
+use Rattle.estimates.specs.declared.fraction.TheConstants.{MAX_PLACES}
+use Rattle.estimates.specs.Fraction.{decimal_of}
+use Rattle.estimates.specs.Fraction.{nearest}
 use Rattle.c_objects.specs.Bounds.{wide}
 use Rattle.c_objects.specs.Buffer.{IsPut}
 use Rattle.c_objects.specs.Numerals.{decimal_text}

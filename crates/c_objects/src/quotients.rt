@@ -1,6 +1,6 @@
 //! Fractions as decimal numbers and as whole ones, as they are written for C.
 ghost use Rattle.std.specs.Prelude.{◌≡◌, ◌≤◌, IsSome};
-ghost use Rattle.core_state.specs.declared.fraction.TheConstants.{MAX_PLACES};
+ghost use Rattle.estimates.specs.declared.fraction.TheConstants.{MAX_PLACES};
 ghost use Rattle.c_objects.specs.Bounds.{is_state, numerator};
 ghost use Rattle.c_objects.specs.Quotients.{WritesNumber, WritesParts, WritesText, parts_of, rounded_of};
 ghost use Rattle.c_objects.specs.Totals.{is_total, total_fraction};
@@ -8,7 +8,8 @@ ghost use Rattle.c_objects.specs.Totals.{is_total, total_fraction};
 use crate::bounds::{Wide, is_state, joined, split};
 use crate::numerals::put_decimal;
 use crate::status::{INVALID_ARGUMENT, OK};
-use theta_sketches::{MAX_PLACES, MAX_THETA, estimate_decimal};
+use estimates::{MAX_PLACES, estimate_decimal, nearest, nearest_total, total_decimal};
+use theta_sketches::MAX_THETA;
 
 /// The estimate of a state with `places` decimals, rounded down: its whole part, and its decimals as one number below
 /// 10^`places`. `None` if no sketch has such a state or there are more than 19 decimals.
@@ -40,10 +41,9 @@ pub fn total_parts(total: &Wide, theta: u64, places: u32) -> Option<(u128, u64)>
         return None;
     }
     let number = joined(total);
-    let divisor = theta as u128;
-    let rest = number % divisor * MAX_THETA as u128;
-    let whole = number / divisor * MAX_THETA as u128 + rest / divisor;
-    let decimals = (rest % divisor * 10u128.pow(places) / divisor) as u64;
+    let estimate = total_decimal(number, theta, places);
+    let whole = estimate.whole();
+    let decimals = estimate.decimals() as u64;
     Some((whole, decimals))
 }
 
@@ -55,8 +55,7 @@ pub fn estimate_rounded(retained: u64, theta: u64) -> Option<u128>
         return None;
     }
     let over = retained as u128 * MAX_THETA as u128;
-    let under = theta as u128;
-    Some((2 * over + under) / (2 * under))
+    Some(nearest(over, theta as u128))
 }
 
 /// The nearest whole number to the estimate of the total of all values; a half is rounded up. `None` if theta isn't
@@ -70,9 +69,7 @@ pub fn total_rounded(total: &Wide, theta: u64) -> Option<u128>
         return None;
     }
     let number = joined(total);
-    let divisor = theta as u128;
-    let rest = number % divisor * MAX_THETA as u128;
-    Some(number / divisor * MAX_THETA as u128 + (2 * rest + divisor) / (2 * divisor))
+    Some(nearest_total(number, theta))
 }
 
 /// Writes the parts of a decimal number. The status is `INVALID_ARGUMENT` if there are none; then nothing is written.

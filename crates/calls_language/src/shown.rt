@@ -1,6 +1,6 @@
 //! What is shown of sketches.
 ghost use Rattle.std.specs.Prelude.{◌≤◌, IfOk};
-ghost use Rattle.core_state.specs.declared.fraction.TheConstants.{MAX_PLACES};
+ghost use Rattle.estimates.specs.declared.fraction.TheConstants.{MAX_PLACES};
 
 use crate::words::{Fault, put_bytes};
 use sketch_base::Error;

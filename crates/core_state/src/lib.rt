@@ -10,7 +10,7 @@ mod settings;
 mod updatable;
 mod view;
 
-pub use fraction::{Decimal, MAX_PLACES, compact_decimal, compact_fraction, estimate_decimal};
+pub use fraction::{compact_decimal, compact_fraction};
 pub use iter::ThetaSketchIter;
 pub use settings::Settings;
 pub use updatable::UpdatableState;

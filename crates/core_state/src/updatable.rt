@@ -15,16 +15,16 @@ ghost use Rattle.core_laws.specs.Insertion.{upsert_allocates, RefusesUpsert};
 ghost use Rattle.core_state.specs.Updatable.{IsUpdatable, sketch_value, sketch_shows, StopsUpdates};
 ghost use Rattle.core_laws.specs.Values.{theta_of, count_of, fraction_of};
 ghost use Rattle.core_laws.specs.Shown.{IsShown};
-ghost use Rattle.core_state.specs.Fraction.{decimal_of};
-ghost use Rattle.core_state.specs.declared.fraction.TheConstants.{MAX_PLACES};
+ghost use Rattle.estimates.specs.Fraction.{decimal_of};
+ghost use Rattle.estimates.specs.declared.fraction.TheConstants.{MAX_PLACES};
 
-use crate::fraction::{Decimal, estimate_decimal, fraction};
 use crate::settings::Settings;
 use core_compact::CompactSketchState;
 use core_laws::MAX_THETA;
 use core_operators::EntryIter;
 use core_slots::{SlotEntry, ThetaEntry, UpsertStep};
 use core_table::SketchHashTable;
+use estimates::{Decimal, MAX_PLACES, count_fraction, estimate_decimal};
 use sketch_base::Error;
 use std::alloc::{Allocator, Global};
 use std::hash::Hash;
@@ -107,7 +107,7 @@ impl<E: SlotEntry, A: Allocator> UpdatableState<E, A> {
     pub fn estimate_fraction(&self) -> (u128, u128)
         ensures { result ≡ fraction_of (sketch_value self.now) }
     {
-        fraction(
+        count_fraction(
             self.empty,
             self.num_retained(),
             self.table.retention_theta(),

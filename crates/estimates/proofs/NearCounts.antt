@@ -7,7 +7,8 @@ use Rattle.std.proofs.lemmas.Nat.{mul-le, le-div, div_below}
 use Rattle.std.proofs.lemmas.Bool.{cases_lt}
 use Rattle.std.proofs.lemmas.Grind.{div_ceil_times}
 use Rattle.core_laws.specs.declared.TheConstants.{MAX_THETA}
-use Rattle.estimates.specs.Bounds.{IsNear, ceil_sqrt, spread, reach, root_sum, middle, count_bounds, nearest}
+use Rattle.estimates.specs.Bounds.{IsNear, ceil_sqrt, spread, reach, root_sum, middle, count_bounds}
+use Rattle.estimates.specs.Fraction.{nearest}
 use Rattle.estimates.proofs.Roots.{ceil_sqrt_enough, ceil_sqrt_least}
 
 -- ---- a number a within √(S a) of e is within (S + √(S (S + 4 e))) / 2 of e, upwards, and downwards

@@ -47,7 +47,3 @@ middle z r t = 2 * (r * MAX_THETA) + spread z t
 unfoldable pub count_bounds : (z r t : ℕ) → Interval
 count_bounds z r t =
     record { lower = max ((middle z r t - reach z r t) / (2 * t)) r; upper = div_ceil (middle z r t + reach z r t) (2 * t) }
-
--- the nearest whole number to a fraction; a half is rounded up
-abbrev pub nearest : (over under : ℕ) → ℕ
-nearest over under = (2 * over + under) / (2 * under)

@@ -1,7 +1,8 @@
 //! Laws of the bounds: each is the contract of a function that does nothing, so that a caller can use it.
 ghost use Rattle.std.specs.Prelude.{◌≡◌, ℕ, ◌+◌, ◌*◌, ◌<◌, ◌≤◌};
 ghost use Rattle.core_laws.specs.declared.TheConstants.{MAX_THETA};
-ghost use Rattle.estimates.specs.Bounds.{IsNear, ceil_sqrt, count_bounds, root_sum, nearest};
+ghost use Rattle.estimates.specs.Bounds.{IsNear, ceil_sqrt, count_bounds, root_sum};
+ghost use Rattle.estimates.specs.Fraction.{nearest};
 
 use core_laws::MAX_THETA;
 

@@ -6,7 +6,8 @@ use Rattle.std.proofs.lemmas.List.{length-map}
 use Rattle.core_compact.specs.CompactState.{Compact, IsCompact}
 use Rattle.core_laws.specs.Entries.{hash_key}
 use Rattle.core_laws.specs.declared.TheConstants.{MAX_THETA}
-use Rattle.estimates.specs.Bounds.{count_bounds, deviation_count, nearest}
+use Rattle.estimates.specs.Bounds.{count_bounds, deviation_count}
+use Rattle.estimates.specs.Fraction.{nearest}
 use Rattle.estimates.specs.declared.bounds.Deviations.{Deviations}
 use Rattle.estimates.specs.declared.bounds.Deviations.TheVariants.{One, Two, Three}
 use Rattle.estimates.specs.declared.bounds.Interval.{Interval}

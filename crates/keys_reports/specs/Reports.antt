@@ -3,7 +3,8 @@ use Rattle.std.specs.Prelude.{ℕ, Bool, ◌≡◌, ◌<◌, ◌≤◌, ◌==◌
 use Rattle.core_compact.specs.CompactState.{Compact}
 use Rattle.core_laws.specs.declared.TheConstants.{MAX_THETA}
 use Rattle.core_state.specs.Fraction.{compact_fraction}
-use Rattle.estimates.specs.Bounds.{count_bounds, nearest}
+use Rattle.estimates.specs.Bounds.{count_bounds}
+use Rattle.estimates.specs.Fraction.{nearest}
 use Rattle.estimates.specs.declared.bounds.Interval.{Interval}
 use Rattle.keys_reports.specs.declared.report.Report.{Report}
 

@@ -6,9 +6,9 @@ ghost use Rattle.core_state.specs.Fraction.{compact_fraction};
 ghost use Rattle.estimates.specs.Bounds.{deviation_count};
 ghost use Rattle.keys_reports.specs.Reports.{report_of};
 
-use crate::report::{Report, rounded};
+use crate::report::Report;
 use core_laws::MAX_THETA;
-use estimates::{Deviations, count_bounds};
+use estimates::{Deviations, count_bounds, count_fraction, nearest};
 
 /// The estimated number of values of which this many are retained below a theta, as a fraction: 0 over 1 for an empty
 /// sketch.
@@ -25,11 +25,7 @@ fn part_fraction(is_empty: bool, retained: usize, theta: u64) -> (u128, u128)
     ensures small { result.0 < 2 ^ 96 }
     ensures bounded { result.1 < 2 ^ 64 }
 {
-    if is_empty {
-        (0, 1)
-    } else {
-        (retained as u128 * MAX_THETA as u128, theta as u128)
-    }
+    count_fraction(is_empty, retained, theta)
 }
 
 /// The report on a part of the values of a stream, such as those that occur twice: from the number of them that a
@@ -47,7 +43,7 @@ pub fn report_of_part(is_empty: bool, retained: usize, theta: u64, deviations: D
 {
     let (over, under) = part_fraction(is_empty, retained, theta);
     Report {
-        estimate: rounded(over, under),
+        estimate: nearest(over, under),
         interval: count_bounds(retained, theta, deviations),
         exact: is_empty || theta == MAX_THETA,
         retained,

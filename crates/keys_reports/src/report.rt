@@ -1,12 +1,12 @@
 //! Reports: the estimate of a sketch, with its bounds.
-ghost use Rattle.std.specs.Prelude.{◌≡◌, ◌<◌, ◌^◌};
+ghost use Rattle.std.specs.Prelude.{◌≡◌};
 ghost use Rattle.core_laws.specs.Values.{fraction_of};
 ghost use Rattle.core_state.specs.Updatable.{sketch_value};
-ghost use Rattle.estimates.specs.Bounds.{deviation_count, nearest};
+ghost use Rattle.estimates.specs.Bounds.{deviation_count};
 ghost use Rattle.keys_reports.specs.Reports.{IsConsistent, is_exact, report_of, rounded};
 
 use core_laws::MAX_THETA;
-use estimates::{Deviations, Interval, count_bounds};
+use estimates::{Deviations, Interval, count_bounds, nearest};
 use std::alloc::Allocator;
 use theta_sketches::{CompactThetaSketch, ThetaSketch};
 
@@ -26,16 +26,6 @@ pub struct Report {
     pub theta: u64,
 }
 
-/// The nearest whole number to a fraction; a half is rounded up.
-pub(crate) fn rounded(over: u128, under: u128) -> u128
-    requires not_zero { 0 < under }
-    requires small { over < 2 ^ 96 }
-    requires low { under < 2 ^ 64 }
-    ensures { result ≡ nearest over under }
-{
-    (2 * over + under) / (2 * under)
-}
-
 /// Whether a sketch is empty or its theta is `MAX_THETA`.
 fn is_exact<A: Allocator>(sketch: &CompactThetaSketch<A>) -> bool
     ensures { result ≡ is_exact sketch.now }
@@ -53,7 +43,7 @@ pub fn report_of<A: Allocator>(sketch: &CompactThetaSketch<A>, deviations: Devia
     let theta = sketch.theta64();
     let (over, under) = sketch.estimate_fraction();
     Report {
-        estimate: rounded(over, under),
+        estimate: nearest(over, under),
         interval: count_bounds(retained, theta, deviations),
         exact: is_exact(sketch),
         retained,
@@ -67,5 +57,5 @@ pub fn estimate_so_far<A: Allocator>(sketch: &ThetaSketch<A>) -> u128
 {
     let _ = sketch.num_retained();
     let (over, under) = sketch.estimate_fraction();
-    rounded(over, under)
+    nearest(over, under)
 }

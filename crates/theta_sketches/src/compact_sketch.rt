@@ -4,8 +4,9 @@ ghost use Rattle.core_compact.specs.CompactState.{IsCompact, shown_of, compact_v
 ghost use Rattle.core_laws.specs.Entries.{hash_key};
 ghost use Rattle.core_laws.specs.Refusal.{Refuses};
 ghost use Rattle.core_laws.specs.Shown.{shown_value};
-ghost use Rattle.core_state.specs.Fraction.{decimal_of, compact_fraction};
-ghost use Rattle.core_state.specs.declared.fraction.TheConstants.{MAX_PLACES};
+ghost use Rattle.core_state.specs.Fraction.{compact_fraction};
+ghost use Rattle.estimates.specs.Fraction.{decimal_of};
+ghost use Rattle.estimates.specs.declared.fraction.TheConstants.{MAX_PLACES};
 ghost use Rattle.theta_sketches.specs.View.{view_shows, view_sequence};
 ghost use Rattle.theta_sketches.specs.Streams.{value_of, view_value, IsPartOf, IsSampleOf};
 
@@ -14,7 +15,8 @@ use core_compact::CompactSketchState;
 use core_laws::MAX_THETA;
 use core_operators::EntryIter;
 use core_slots::ThetaEntry;
-use core_state::{Decimal, MAX_PLACES, ThetaSketchIter, compact_decimal, compact_fraction};
+use core_state::{ThetaSketchIter, compact_decimal, compact_fraction};
+use estimates::{Decimal, MAX_PLACES};
 use sketch_base::Error;
 use std::alloc::{Allocator, Global};
 use std::marker::Model;

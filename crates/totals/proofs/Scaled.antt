@@ -1,33 +1,18 @@
--- Totals: a sum that is scaled in parts, and how large it is.
-use Rattle.std.proofs.Common.{◌≡◌, ◌≢◌, ◌+◌, ◌*◌, ◌/◌, ◌%◌, ◌<◌, ◌≤◌, ℕ, true, false, eqb, List, [], ◌∷◌, length, map, sym, ap, ◌∙◌, refl, arith}
+-- Totals: how large a scaled sum is.
+use Rattle.std.proofs.Common.{◌≡◌, ◌≢◌, ◌+◌, ◌*◌, ◌<◌, ◌≤◌, ℕ, true, false, eqb, List, [], ◌∷◌, length, map, sym, ap, ◌∙◌, refl, arith}
 use Rattle.std.specs.Prelude.{◌||◌}
 use Rattle.std.specs.List.{AllByRecursion, AllPairs, list_any}
-use Rattle.std.proofs.Math.Nat.{add-mul, mul_right_comm, mul-add-div_right}
 use Rattle.std.proofs.lemmas.Bool.Decides.{nat_tests}
 use Rattle.std.proofs.lemmas.List.{length-map}
 use Rattle.std.proofs.lemmas.Map.Steps.{length-le_from_distinct_below}
-use Rattle.std.proofs.lemmas.Nat.{mul-le, le-div, div-add-mod', div_below}
+use Rattle.std.proofs.lemmas.Nat.{mul-le, le-div, div_below}
 use Rattle.core_compact.specs.CompactState.{Compact, IsCompact}
 use Rattle.core_laws.specs.declared.TheConstants.{MAX_THETA}
 use Rattle.core_laws.proofs.maps.MapsOfLists.{apart}
 use Rattle.core_slots.specs.Entry.{tuple_key}
 use Rattle.core_slots.specs.declared.entry.TupleEntry.{TupleEntry}
-use Rattle.estimates.specs.Bounds.{nearest}
+use Rattle.estimates.specs.Fraction.{nearest}
 use Rattle.totals.specs.Totals.{sum_of, total_of, IsTotalOf}
-
--- n * m by the multiples of t in n, and the rest
-in_parts : (n m t : ℕ) → n * m ≡ n / t * m * t + n % t * m
-in_parts n m t =
-    ap (λ (x : ℕ). x * m) (sym (div-add-mod' n t)) ∙ add-mul (n / t * t) (n % t) m ∙ ap (λ (x : ℕ). x + n % t * m) (mul_right_comm (n / t) t m)
-
-doubled : (q r t : ℕ) → 2 * (q * t + r) + t ≡ q * (2 * t) + (2 * r + t)
-doubled q r t = omega arith
-
--- so a product of all of n is not needed
-pub nearest_in_parts : (n m t : ℕ) → 0 < t → n / t * m + (2 * (n % t * m) + t) / (2 * t) ≡ nearest (n * m) t
-nearest_in_parts n m t low =
-    let some : 0 < 2 * t = omega (arith, low) in
-    sym (ap (λ (x : ℕ). (2 * x + t) / (2 * t)) (in_parts n m t) ∙ ap (λ (x : ℕ). x / (2 * t)) (doubled (n / t * m) (n % t * m) t) ∙ mul-add-div_right some (n / t * m) (2 * (n % t * m) + t))
 
 -- distinct hashes below t are at most t
 below_any : (t q : ℕ) (hs : List ℕ) → AllByRecursion (λ h. h < t) hs → list_any (eqb q) hs ≡ true → q < t

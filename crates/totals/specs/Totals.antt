@@ -3,7 +3,7 @@ use Rattle.std.specs.Prelude.{ℕ, ◌≡◌, ◌≤◌, ◌+◌, ◌*◌, ◌==
 use Rattle.core_compact.specs.CompactState.{Compact}
 use Rattle.core_laws.specs.declared.TheConstants.{MAX_THETA}
 use Rattle.core_slots.specs.declared.entry.TupleEntry.{TupleEntry}
-use Rattle.estimates.specs.Bounds.{nearest}
+use Rattle.estimates.specs.Fraction.{nearest}
 use Rattle.totals.specs.declared.total.Total.{Total}
 
 -- the sum of the sums of entries

@@ -1,11 +1,10 @@
 //! The estimated total of the values of a stream, from a sketch of sums.
 ghost use Rattle.std.specs.Prelude.{◌≡◌, ◌<◌, ◌≤◌, ◌*◌, ◌-◌, ◌^◌, length};
-ghost use Rattle.core_laws.specs.declared.TheConstants.{MAX_THETA};
-ghost use Rattle.estimates.specs.Bounds.{nearest};
 ghost use Rattle.totals.specs.Totals.{IsTotalOf, sum_of, total_of};
 
 use crate::laws::totals_are_consistent;
 use core_laws::MAX_THETA;
+use estimates::nearest_total;
 use std::alloc::Allocator;
 use tuple_sketches::{CompactTupleSketch, TupleSketchIter};
 
@@ -35,19 +34,6 @@ pub fn sum_of(entries: TupleSketchIter<'_, u64>) -> u128
     sum
 }
 
-/// A sum times `MAX_THETA` over theta, rounded to the nearest whole number; a half is rounded up.
-fn scaled(sum: u128, theta: u64) -> u128
-    requires low { 0 < theta }
-    requires high { theta ≤ MAX_THETA }
-    requires small { sum < 2 ^ 64 * theta }
-    ensures { result ≡ nearest (sum * MAX_THETA) theta }
-{
-    let under = theta as u128;
-    let greatest = MAX_THETA as u128;
-    let rest = sum % under * greatest;
-    sum / under * greatest + (2 * rest + under) / (2 * under)
-}
-
 /// The estimated total of the values of a stream, from a sketch of sums of it. It is at least the sum of the retained
 /// sums, and that sum itself if it is exact.
 pub fn total_of<A: Allocator>(sketch: &CompactTupleSketch<u64, A>) -> Total
@@ -58,7 +44,7 @@ pub fn total_of<A: Allocator>(sketch: &CompactTupleSketch<u64, A>) -> Total
     let retained = sketch.num_retained();
     let theta = sketch.theta64();
     Total {
-        total: scaled(sum_of(sketch.iter()), theta),
+        total: nearest_total(sum_of(sketch.iter()), theta),
         exact: theta == MAX_THETA,
         retained,
         theta,

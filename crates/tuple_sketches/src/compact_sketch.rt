@@ -4,9 +4,10 @@ ghost use Rattle.core_compact.specs.CompactState.{IsCompact, shown_of, compact_v
 ghost use Rattle.core_laws.specs.Entries.{ClonesEqual};
 ghost use Rattle.core_laws.specs.Refusal.{Refuses};
 ghost use Rattle.core_laws.specs.Shown.{shown_value};
-ghost use Rattle.core_state.specs.Fraction.{decimal_of, compact_fraction};
+ghost use Rattle.core_state.specs.Fraction.{compact_fraction};
+ghost use Rattle.estimates.specs.Fraction.{decimal_of};
 ghost use Rattle.core_state.specs.View.{shows, sequence};
-ghost use Rattle.core_state.specs.declared.fraction.TheConstants.{MAX_PLACES};
+ghost use Rattle.estimates.specs.declared.fraction.TheConstants.{MAX_PLACES};
 ghost use Rattle.core_slots.specs.Entry.{tuple_key};
 ghost use Rattle.tuple_sketches.specs.Streams.{Given, value_of, view_value, IsPartOf, IsSampleOf};
 
@@ -15,7 +16,8 @@ use core_compact::CompactSketchState;
 use core_laws::MAX_THETA;
 use core_operators::EntryIter;
 use core_slots::TupleEntry;
-use core_state::{Decimal, MAX_PLACES, compact_decimal, compact_fraction};
+use core_state::{compact_decimal, compact_fraction};
+use estimates::{Decimal, MAX_PLACES};
 use sketch_base::Error;
 use std::alloc::{Allocator, Global};
 use std::marker::Model;

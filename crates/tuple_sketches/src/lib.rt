@@ -92,8 +92,8 @@ pub use core_policies::{
     SummaryUpdatePolicy,
 };
 pub use core_slots::TupleEntry;
-pub use core_state::{Decimal, MAX_PLACES, estimate_decimal};
 pub use core_table::ResizeFactor;
+pub use estimates::{Decimal, MAX_PLACES, estimate_decimal};
 pub use image::{
     EMPTY_SKETCH_BYTES, SERIAL_VERSION, SERIAL_VERSION_LEGACY, SKETCH_TYPE, SKETCH_TYPE_LEGACY,
 };

@@ -9,7 +9,7 @@ use Rattle.keys_reports.proofs.part.report_of_part.Goals as goal
 pub returns-then-is_empty : goal.returns-then-is_empty
 unfolding report_of
 returns-then-is_empty c = λ s empty theta count.
-    let estimate : c.rounded.result ≡ rounded (compact_fraction s) = c.rounded.ensures ∙ ap rounded (c.part_fraction-over.ensures.fraction s empty theta count) in
+    let estimate : c.nearest.result ≡ rounded (compact_fraction s) = c.nearest.ensures ∙ ap rounded (c.part_fraction-over.ensures.fraction s empty theta count) in
     let interval = c.count_bounds.ensures in
     let exact = c.if-is_empty.true ∙ ap (λ b. b || eqb s.theta MAX_THETA) (sym (empty ∙ c.if-is_empty.true)) in
     (λ i. record { estimate = estimate i; interval = interval i; exact = exact i; retained = c.args.retained; theta = c.args.theta })
@@ -18,7 +18,7 @@ returns-then-is_empty c = λ s empty theta count.
 pub returns-else-is_empty : goal.returns-else-is_empty
 unfolding report_of
 returns-else-is_empty c = λ s empty theta count.
-    let estimate : c.rounded.result ≡ rounded (compact_fraction s) = c.rounded.ensures ∙ ap rounded (c.part_fraction-over.ensures.fraction s empty theta count) in
+    let estimate : c.nearest.result ≡ rounded (compact_fraction s) = c.nearest.ensures ∙ ap rounded (c.part_fraction-over.ensures.fraction s empty theta count) in
     let interval = c.count_bounds.ensures in
     let exact = ap (λ (t : ℕ). eqb t MAX_THETA) (sym theta) ∙ ap (λ b. b || eqb s.theta MAX_THETA) (sym (empty ∙ c.if-is_empty.false)) in
     (λ i. record { estimate = estimate i; interval = interval i; exact = exact i; retained = c.args.retained; theta = c.args.theta })

@@ -6,7 +6,7 @@ use Rattle.keys_reports.proofs.report.report_of.Goals as goal
 
 pub returns-clause-made : goal.returns-clause-made
 unfolding report_of
-returns-clause-made g c = rw (c.rounded.ensures, c.count_bounds.ensures, c.is_exact.ensures, c.estimate_fraction-over.ensures, c.num_retained-retained.ensures.count, c.theta64-theta.ensures) refl
+returns-clause-made g c = rw (c.nearest.ensures, c.count_bounds.ensures, c.is_exact.ensures, c.estimate_fraction-over.ensures, c.num_retained-retained.ensures.count, c.theta64-theta.ensures) refl
 
 pub returns-clause-consistent : goal.returns-clause-consistent
 returns-clause-consistent g c =
