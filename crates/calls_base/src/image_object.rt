@@ -8,7 +8,7 @@ use calls_language::object::{Call, Memory, Object};
 use calls_language::settings::no_settings;
 use calls_language::words::{Fault, small_number};
 use std::alloc::{Allocator, Global};
-use theta_core::image::{ImageEntry, Layout, flagged_layout, read_after_preamble};
+use theta_core::image::{ImageEntry, ImageLayout, flagged_layout, read_after_preamble};
 use theta_core::{ThetaEntry, TupleEntry};
 
 /// A reader, which has no state but its memory.
@@ -18,7 +18,7 @@ pub struct ImagesObject<A> {
 }
 
 /// The layout of an image of version 3, which ends behind its preamble.
-fn layout_of(bytes: &[u8], longs: u8, seed_hash: u16) -> Option<Layout>
+fn layout_of(bytes: &[u8], longs: u8, seed_hash: u16) -> Option<ImageLayout>
     requires whole { 8 ≤ length bytes.now }
     requires low { 1 ≤ longs }
     requires high { longs ≤ 3 }

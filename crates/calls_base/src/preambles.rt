@@ -7,7 +7,7 @@ use calls_language::shown::order_word;
 use calls_language::words::{Fault, number, order_flag, small_number};
 use std::alloc::{AllocError, Global};
 use theta_core::image::{
-    Layout, Preamble, admitted, announced, count_at, flagged_layout, seed_hash_at, theta_at,
+    ImageLayout, Preamble, admitted, announced, count_at, flagged_layout, seed_hash_at, theta_at,
 };
 
 /// Appends a preamble.
@@ -23,11 +23,11 @@ fn put_preamble(answer: &mut String, preamble: Preamble) -> Result<(), AllocErro
 }
 
 /// Appends a layout.
-fn put_layout(answer: &mut String, layout: Option<Layout>) -> Result<(), AllocError> {
+fn put_layout(answer: &mut String, layout: Option<ImageLayout>) -> Result<(), AllocError> {
     match layout {
         None => answer.push_str("none"),
-        Some(Layout::Empty) => answer.push_str("empty"),
-        Some(Layout::Filled(preamble)) => put_preamble(answer, preamble),
+        Some(ImageLayout::Empty) => answer.push_str("empty"),
+        Some(ImageLayout::Filled(preamble)) => put_preamble(answer, preamble),
     }
 }
 

@@ -7,7 +7,7 @@ use calls_language::series::{as_unsigned, numbers_of};
 use calls_language::words::{Fault, number, order_flag};
 use sketch_base::ErrorKind;
 use std::alloc::{Allocator, Global};
-use theta_core::image::{ImageEntry, Layout, Preamble, read_after_preamble};
+use theta_core::image::{ImageEntry, ImageLayout, Preamble, read_after_preamble};
 use theta_core::{CompactSketchState, MAX_THETA};
 
 /// The seed hash of the default seed.
@@ -93,7 +93,7 @@ fn plain_state<E: NamedEntry>(
         theta: words.theta,
         ordered: words.ordered,
     };
-    let layout = Some(Layout::Filled(preamble));
+    let layout = Some(ImageLayout::Filled(preamble));
     match read_after_preamble::<E, Global>(plain, bytes.as_slice(), layout, words.seed_hash) {
         Ok(state) => Ok(state),
         Err(_) => Err(Fault::Condition),

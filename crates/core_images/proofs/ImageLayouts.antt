@@ -6,8 +6,8 @@ use Rattle.core_images.specs.Read.{ReadsFlagged, empty_image, single_image, exac
 use Rattle.core_images.specs.Preamble.{announced, seed_hash_at, count_at, theta_at, is_empty, is_ordered, flagged_layout, admitted, IsWholeLayout}
 use Rattle.core_images.specs.Entry.{state_after_preamble}
 use Rattle.core_laws.specs.declared.TheConstants.{MAX_THETA}
-use Rattle.core_images.specs.declared.preamble.Layout.{Layout}
-use Rattle.core_images.specs.declared.preamble.Layout.TheVariants.{Empty, Filled}
+use Rattle.core_images.specs.declared.preamble.ImageLayout.{ImageLayout}
+use Rattle.core_images.specs.declared.preamble.ImageLayout.TheVariants.{Empty, Filled}
 use Rattle.core_images.specs.declared.preamble.Preamble.{Preamble}
 use Rattle.core_images.proofs.SpelledEntries.{lists_one}
 
@@ -32,36 +32,36 @@ flagged_estimating bytes longs h e s l w low high = grind (arith, nat_tests)
 
 -- the parts of `flagged_layout`: a preamble of one word, of two and of three, the choices among them, and the test before
 module _ (bytes : List ℕ) where
-  abbrev one_word : Option Layout
+  abbrev one_word : Option ImageLayout
   one_word = Some (Filled (announced 1 1 MAX_THETA (is_ordered bytes)))
 
-  abbrev two_words : Option Layout
+  abbrev two_words : Option ImageLayout
   two_words = Some (Filled (announced 2 (count_at bytes) MAX_THETA (is_ordered bytes)))
 
   abbrev three_words : Preamble
   three_words = announced 3 (count_at bytes) (theta_at bytes) (is_ordered bytes)
 
-  abbrev from_two : (longs : ℕ) → Option Layout
+  abbrev from_two : (longs : ℕ) → Option ImageLayout
   from_two longs = cond (eqb longs 2) two_words (admitted three_words)
 
-  abbrev from_one : (longs : ℕ) → Option Layout
+  abbrev from_one : (longs : ℕ) → Option ImageLayout
   from_one longs = cond (eqb longs 1) one_word (from_two longs)
 
   abbrev is_unfit : (h longs : ℕ) → Bool
   is_unfit h longs = not (eqb (seed_hash_at bytes) h) || ltb (length bytes) (8 * longs)
 
 module _ {X : Type 0} (key : X → ℕ) (Spells : List ℕ → X → Type 0) (bytes : List ℕ) (h : ℕ) where
-  abbrev pub Comes : Option Layout → Compact X → Type 0
+  abbrev pub Comes : Option ImageLayout → Compact X → Type 0
   Comes l s = LeavesOpen key Spells bytes h l s
 
   -- a layout allows at most one state
-  pub comes_one : (one : (a b u v : List ℕ) (x y : X) → Spells a x → Spells b y → a ++ u ≡ b ++ v → (a ≡ b) × (x ≡ y)) → (l : Option Layout) (r s : Compact X) → Comes l r → Comes l s → r ≡ s
+  pub comes_one : (one : (a b u v : List ℕ) (x y : X) → Spells a x → Spells b y → a ++ u ≡ b ++ v → (a ≡ b) × (x ≡ y)) → (l : Option ImageLayout) (r s : Compact X) → Comes l r → Comes l s → r ≡ s
   comes_one one None r s p q = absurd p
   comes_one one (Some Empty) r s p q = p ∙ sym q
   comes_one one (Some (Filled m)) r s p q = p.1 ∙ ap (λ xs. state_after_preamble m h xs) (lists_one Spells one key bytes m h p.0 q.0 p.2 q.2) ∙ sym q.1
 
   -- equal layouts allow the same readings
-  pub along : (l m : Option Layout) (s : Compact X) → l ≡ m → Comes m s → Comes l s
+  pub along : (l m : Option ImageLayout) (s : Compact X) → l ≡ m → Comes m s → Comes l s
   along l m s e p = rw e p
 
   -- the layout allows each reading
@@ -72,7 +72,7 @@ module _ {X : Type 0} (key : X → ℕ) (Spells : List ℕ → X → Type 0) (by
   flagged_from longs (estimating_image xs e s l f) = along _ _ _ (flagged_estimating bytes longs h e s l f.whole f.lawful.theta_low f.lawful.theta_high) (xs, refl, f)
 
   -- the other way: a state that a choice by a test allows
-  pub chosen : (t : Bool) (a b : Option Layout) (s : Compact X) → Comes (cond t a b) s → ((t ≡ true) × Comes a s) ⊎ ((t ≡ false) × Comes b s)
+  pub chosen : (t : Bool) (a b : Option ImageLayout) (s : Compact X) → Comes (cond t a b) s → ((t ≡ true) × Comes a s) ⊎ ((t ≡ false) × Comes b s)
   chosen true a b s p = inl (refl, p)
   chosen false a b s p = inr (refl, p)
 
@@ -105,7 +105,7 @@ module _ {X : Type 0} (key : X → ℕ) (Spells : List ℕ → X → Type 0) (by
 
 module _ (bytes : List ℕ) (h : ℕ) where
   -- a layout that is chosen by a test is whole if both are
-  pub either_whole : (t : Bool) (a b : Option Layout) → (t ≡ true → IsWholeLayout bytes a) → (t ≡ false → IsWholeLayout bytes b) → IsWholeLayout bytes (cond t a b)
+  pub either_whole : (t : Bool) (a b : Option ImageLayout) → (t ≡ true → IsWholeLayout bytes a) → (t ≡ false → IsWholeLayout bytes b) → IsWholeLayout bytes (cond t a b)
   either_whole true a b f g = f refl
   either_whole false a b f g = g refl
 

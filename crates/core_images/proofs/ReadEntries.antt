@@ -7,7 +7,7 @@ use Rattle.core_images.specs.Read.{IsRefused, LeavesOpen}
 use Rattle.core_images.specs.Entry.{SpellsEach, Holds, state_after_preamble}
 use Rattle.core_images.specs.Check.{AreHashes}
 use Rattle.core_laws.specs.Shown.{IsShown}
-use Rattle.core_images.specs.declared.preamble.Layout.TheVariants.{Filled}
+use Rattle.core_images.specs.declared.preamble.ImageLayout.TheVariants.{Filled}
 use Rattle.core_images.specs.declared.preamble.Preamble.{Preamble}
 use Rattle.core_images.proofs.SpelledEntries.{each_more, next_one, holds_one}
 use Rattle.core_images.proofs.AscendingTests.{hashes_from}

@@ -4,8 +4,8 @@ use Rattle.std.specs.Prelude.{nat_lt, if◌then◌else◌, ⊤, ◌<◌, ◌&&�
 use Rattle.sketch_base.specs.Bytes.{number}
 use Rattle.core_laws.specs.declared.TheConstants.{MAX_THETA}
 use Rattle.core_images.specs.declared.preamble.Preamble.{Preamble}
-use Rattle.core_images.specs.declared.preamble.Layout.{Layout}
-use Rattle.core_images.specs.declared.preamble.Layout.TheVariants.{Empty, Filled}
+use Rattle.core_images.specs.declared.preamble.ImageLayout.{ImageLayout}
+use Rattle.core_images.specs.declared.preamble.ImageLayout.TheVariants.{Empty, Filled}
 
 -- the number in the n bytes from offset i, the lowest byte first
 abbrev pub number_at : (n : ℕ) → List ℕ → (i : ℕ) → ℕ
@@ -49,11 +49,11 @@ abbrev pub announced : (longs count theta : ℕ) → (ordered : Bool) → Preamb
 announced longs count theta ordered = record { start = 8 * longs; count = count; theta = theta; ordered = ordered }
 
 -- a preamble whose theta is from 1 to MAX_THETA
-unfoldable pub admitted : Preamble → Option Layout
+unfoldable pub admitted : Preamble → Option ImageLayout
 admitted p = if nat_lt 0 p.theta && nat_le p.theta MAX_THETA then Some (Filled p) else None
 
 -- the layout of version 3, after its first three bytes
-unfoldable pub flagged_layout : List ℕ → (longs h : ℕ) → Option Layout
+unfoldable pub flagged_layout : List ℕ → (longs h : ℕ) → Option ImageLayout
 flagged_layout bytes longs h =
     if is_empty bytes then Some Empty
     else (if not (seed_hash_at bytes == h) || nat_lt (length bytes) (8 * longs) then None
@@ -62,7 +62,7 @@ flagged_layout bytes longs h =
     else admitted (announced 3 (count_at bytes) (theta_at bytes) (is_ordered bytes)))))
 
 -- the bytes have the whole preamble, and its theta is from 1 to MAX_THETA
-abbrev pub IsWholeLayout : List ℕ → Option Layout → Type 0
+abbrev pub IsWholeLayout : List ℕ → Option ImageLayout → Type 0
 IsWholeLayout bytes None = ⊤
 IsWholeLayout bytes (Some Empty) = ⊤
 IsWholeLayout bytes (Some (Filled p)) = (p.start ≤ length bytes) × (0 < p.theta) × (p.theta ≤ MAX_THETA)

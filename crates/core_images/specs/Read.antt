@@ -6,8 +6,8 @@ use Rattle.core_compact.specs.CompactState.{Compact, empty_compact}
 use Rattle.core_images.specs.Entry.{HasEntries, state_after_preamble}
 use Rattle.core_laws.specs.declared.TheConstants.{MAX_THETA}
 use Rattle.core_images.specs.Preamble.{Begins, is_empty, is_ordered, seed_hash_at, count_at, theta_at, announced}
-use Rattle.core_images.specs.declared.preamble.Layout.{Layout}
-use Rattle.core_images.specs.declared.preamble.Layout.TheVariants.{Empty, Filled}
+use Rattle.core_images.specs.declared.preamble.ImageLayout.{ImageLayout}
+use Rattle.core_images.specs.declared.preamble.ImageLayout.TheVariants.{Empty, Filled}
 
 -- the error is OutOfMemory, or it is InvalidData and there is no reading
 abbrev pub IsRefused : ErrorKind → Type 0 → Type 0
@@ -43,7 +43,7 @@ ReadsCurrent key Spells family kind bytes h s =
     (longs : ℕ) × Begins bytes longs 3 family × (slice_index bytes 3 ≡ kind) × ReadsFlagged key Spells bytes longs h s
 
 -- a layout allows this state: by what it says, and by the bytes after the preamble
-abbrev pub LeavesOpen : {X : Type 0} → (X → ℕ) → (List ℕ → X → Type 0) → List ℕ → (h : ℕ) → Option Layout → Compact X → Type 0
+abbrev pub LeavesOpen : {X : Type 0} → (X → ℕ) → (List ℕ → X → Type 0) → List ℕ → (h : ℕ) → Option ImageLayout → Compact X → Type 0
 LeavesOpen key Spells bytes h None s = ⊥
 LeavesOpen key Spells bytes h (Some Empty) s = s ≡ empty_compact h
 LeavesOpen {X} key Spells bytes h (Some (Filled p)) s = (xs : List X) × (s ≡ state_after_preamble p h xs) × HasEntries key Spells bytes p h xs

@@ -17,7 +17,7 @@ mod write;
 
 pub use entry::ImageEntry;
 pub use preamble::{
-    Layout, Preamble, admitted, announced, count_at, flagged_layout, seed_hash_at, theta_at,
+    ImageLayout, Preamble, admitted, announced, count_at, flagged_layout, seed_hash_at, theta_at,
 };
 pub use read::read_after_preamble;
 pub use summary::TupleSummaryValue;

@@ -19,7 +19,7 @@ pub struct Preamble {
 
 /// What the preamble of an image is read as.
 #[derive(Debug, Clone, Copy)]
-pub enum Layout {
+pub enum ImageLayout {
     /// The empty sketch.
     Empty,
     /// A sketch that is not empty, whose entries follow a preamble.
@@ -66,11 +66,11 @@ pub fn announced(longs: u8, count: u32, theta: u64, ordered: bool) -> Preamble
 
 /// The layout with this preamble, or `None` if its theta is not from 1 to `MAX_THETA`.
 #[tactic(auto, unfolding(crate::specs::Preamble::admitted))]
-pub fn admitted(p: Preamble) -> Option<Layout>
+pub fn admitted(p: Preamble) -> Option<ImageLayout>
     ensures { result ≡ admitted p }
 {
     if 0 < p.theta && p.theta <= MAX_THETA {
-        Some(Layout::Filled(p))
+        Some(ImageLayout::Filled(p))
     } else {
         None
     }
@@ -80,7 +80,7 @@ pub fn admitted(p: Preamble) -> Option<Layout>
 /// `None` if the image isn't flagged empty and has another seed hash, ends within its preamble, or has a theta
 /// outside its range.
 #[tactic(auto, unfolding(crate::specs::Preamble::flagged_layout))]
-pub fn flagged_layout(bytes: &[u8], longs: u8, seed_hash: u16) -> Option<Layout>
+pub fn flagged_layout(bytes: &[u8], longs: u8, seed_hash: u16) -> Option<ImageLayout>
     requires whole { 8 ≤ length bytes.now }
     requires low { 1 ≤ longs }
     requires high { longs ≤ 3 }
@@ -88,16 +88,16 @@ pub fn flagged_layout(bytes: &[u8], longs: u8, seed_hash: u16) -> Option<Layout>
 {
     let ordered = bytes[5] & 0x10 != 0;
     if bytes[5] & 0x04 != 0 {
-        return Some(Layout::Empty);
+        return Some(ImageLayout::Empty);
     }
     if seed_hash_at(bytes) != seed_hash || bytes.len() < 8 * longs as usize {
         return None;
     }
     if longs == 1 {
-        return Some(Layout::Filled(announced(1, 1, MAX_THETA, ordered)));
+        return Some(ImageLayout::Filled(announced(1, 1, MAX_THETA, ordered)));
     }
     if longs == 2 {
-        return Some(Layout::Filled(announced(2, count_at(bytes), MAX_THETA, ordered)));
+        return Some(ImageLayout::Filled(announced(2, count_at(bytes), MAX_THETA, ordered)));
     }
     admitted(announced(3, count_at(bytes), theta_at(bytes), ordered))
 }

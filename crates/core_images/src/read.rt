@@ -4,7 +4,7 @@ ghost use Rattle.core_images.specs.Preamble.{IsWholeLayout};
 
 use crate::check::are_entries;
 use crate::entry::ImageEntry;
-use crate::preamble::Layout;
+use crate::preamble::ImageLayout;
 use core_compact::CompactSketchState;
 use sketch_base::{Error, ErrorKind};
 use std::alloc::Allocator;
@@ -15,7 +15,7 @@ use std::alloc::Allocator;
 pub fn read_after_preamble<E: ImageEntry<A> + Drop, A: Allocator + Clone + Drop>(
     alloc: A,
     bytes: &[u8],
-    layout: Option<Layout>,
+    layout: Option<ImageLayout>,
     seed_hash: u16,
 ) -> Result<CompactSketchState<E, A>, Error>
     requires { IsWholeLayout bytes.now layout }
@@ -23,8 +23,8 @@ pub fn read_after_preamble<E: ImageEntry<A> + Drop, A: Allocator + Clone + Drop>
 {
     match layout {
         None => Err(Error::new(ErrorKind::InvalidData)),
-        Some(Layout::Empty) => Ok(CompactSketchState::empty(alloc, seed_hash)),
-        Some(Layout::Filled(p)) => {
+        Some(ImageLayout::Empty) => Ok(CompactSketchState::empty(alloc, seed_hash)),
+        Some(ImageLayout::Filled(p)) => {
             let (_, rest) = bytes.split_at(p.start);
             let (entries, ascends) = E::read_and_compare(alloc.clone()?, rest, p.count)?;
             if are_entries(alloc, &entries, p.theta, p.ordered, ascends)? {

@@ -30,7 +30,7 @@ pub record MapTable (X : Type 0) : Type 0 where
   pub seed_hash : ℕ
 
 -- the slots of a table, their binary logarithm, and by how much it grows at once
-pub record Layout (X : Type 0) : Type 0 where
+pub record TableLayout (X : Type 0) : Type 0 where
   pub lg_cur : ℕ
   pub grow : ℕ
   pub slots : List (Option X)
@@ -40,7 +40,7 @@ pub record Layout (X : Type 0) : Type 0 where
 pub record Table (X : Type 0) : Type 0 where
   pub map : MapTable X
   pub sequence : List X
-  pub layout : Layout X
+  pub layout : TableLayout X
   pub counts : Counts
 
 -- a table with no entries and its starting theta

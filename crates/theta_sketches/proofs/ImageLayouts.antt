@@ -8,8 +8,8 @@ use Rattle.core_images.specs.Preamble.{Begins, announced, seed_hash_at, count_at
 use Rattle.core_images.specs.Entry.{SpellsHash}
 use Rattle.core_images.specs.Read.{LeavesOpen}
 use Rattle.core_laws.specs.declared.TheConstants.{MAX_THETA}
-use Rattle.core_images.specs.declared.preamble.Layout.{Layout}
-use Rattle.core_images.specs.declared.preamble.Layout.TheVariants.{Empty, Filled}
+use Rattle.core_images.specs.declared.preamble.ImageLayout.{ImageLayout}
+use Rattle.core_images.specs.declared.preamble.ImageLayout.TheVariants.{Empty, Filled}
 use Rattle.core_images.specs.declared.preamble.Preamble.{Preamble}
 use Rattle.core_images.proofs.ImageLayouts.{along, chosen, admitted_to, flagged_from, flagged_to, either_whole, admitted_whole, flagged_whole}
 use Rattle.theta_sketches.specs.Image.{SpellsSketch, version_3, version_2_empty, version_2_exact, version_2_estimating, version_1, ReadsUnflagged, vacant_image, filled_image, is_vacant}
@@ -56,23 +56,23 @@ module _ (bytes : List ℕ) where
   abbrev is_unfit : Bool
   is_unfit = ltb (length bytes) 8 || not (leb 1 (slice_index bytes 0) && leb (slice_index bytes 0) 3) || not (eqb (slice_index bytes 2) 3)
 
-  abbrev from_1 : (h : ℕ) → Option Layout
+  abbrev from_1 : (h : ℕ) → Option ImageLayout
   from_1 h = cond (eqb (slice_index bytes 1) 1) (version_1_layout bytes h) None
 
-  abbrev from_2 : (h : ℕ) → Option Layout
+  abbrev from_2 : (h : ℕ) → Option ImageLayout
   from_2 h = cond (eqb (slice_index bytes 1) 2) (version_2_layout bytes (slice_index bytes 0) h) (from_1 h)
 
-  abbrev from_3 : (h : ℕ) → Option Layout
+  abbrev from_3 : (h : ℕ) → Option ImageLayout
   from_3 h = cond (eqb (slice_index bytes 1) 3) (flagged_layout bytes (slice_index bytes 0) h) (from_2 h)
 
 module _ (bytes : List ℕ) (h : ℕ) where
-  abbrev pub Comes : Option Layout → Compact ℕ → Type 0
+  abbrev pub Comes : Option ImageLayout → Compact ℕ → Type 0
   Comes l s = LeavesOpen hash_key SpellsHash bytes h l s
 
-  comes_along : (l m : Option Layout) (s : Compact ℕ) → l ≡ m → Comes m s → Comes l s
+  comes_along : (l m : Option ImageLayout) (s : Compact ℕ) → l ≡ m → Comes m s → Comes l s
   comes_along l m s e p = along hash_key SpellsHash bytes h l m s e p
 
-  choice : (t : Bool) (a b : Option Layout) (s : Compact ℕ) → Comes (cond t a b) s → ((t ≡ true) × Comes a s) ⊎ ((t ≡ false) × Comes b s)
+  choice : (t : Bool) (a b : Option ImageLayout) (s : Compact ℕ) → Comes (cond t a b) s → ((t ≡ true) × Comes a s) ⊎ ((t ≡ false) × Comes b s)
   choice t a b s p = chosen hash_key SpellsHash bytes h t a b s p
 
   unflagged_from : {s : Compact ℕ} (p : Preamble) (reported : ℕ) → ReadsUnflagged bytes p reported h s → Comes (unflagged_layout p reported h) s

@@ -13,7 +13,7 @@ ghost use Rattle.theta_sketches.specs.ImageLayout.{unflagged_layout, version_1_l
 
 use crate::compact_sketch::CompactThetaSketch;
 use core_images::{
-    Layout, Preamble, admitted, announced, count_at, flagged_layout, read_after_preamble,
+    ImageLayout, Preamble, admitted, announced, count_at, flagged_layout, read_after_preamble,
     seed_hash_at, theta_at, write_image,
 };
 use core_laws::MAX_THETA;
@@ -25,11 +25,11 @@ use std::alloc::Allocator;
 /// Otherwise hashes follow, or it is `None` if `image_seed_hash` isn't the reader's seed hash or theta is out of
 /// range.
 #[tactic(auto, unfolding(crate::specs::ImageLayout::unflagged_layout))]
-fn unflagged_layout(p: Preamble, image_seed_hash: u16, seed_hash: u16) -> Option<Layout>
+fn unflagged_layout(p: Preamble, image_seed_hash: u16, seed_hash: u16) -> Option<ImageLayout>
     ensures { result ≡ unflagged_layout p image_seed_hash seed_hash }
 {
     if p.count == 0 && p.theta == MAX_THETA {
-        Some(Layout::Empty)
+        Some(ImageLayout::Empty)
     } else if image_seed_hash == seed_hash {
         admitted(p)
     } else {
@@ -41,14 +41,14 @@ fn unflagged_layout(p: Preamble, image_seed_hash: u16, seed_hash: u16) -> Option
 /// at the greatest theta (2), or one with a theta of its own (3). It is `None` if the bytes end within the preamble,
 /// or if `unflagged_layout` is.
 #[tactic(auto, unfolding(crate::specs::ImageLayout::version_2_layout))]
-fn version_2_layout(bytes: &[u8], longs: u8, seed_hash: u16) -> Option<Layout>
+fn version_2_layout(bytes: &[u8], longs: u8, seed_hash: u16) -> Option<ImageLayout>
     requires whole { 8 ≤ length bytes.now }
     requires low { 1 ≤ longs }
     requires high { longs ≤ 3 }
     ensures { result ≡ version_2_layout bytes.now longs seed_hash }
 {
     if longs == 1 {
-        return Some(Layout::Empty);
+        return Some(ImageLayout::Empty);
     }
     if bytes.len() < 8 * longs as usize {
         return None;
@@ -68,7 +68,7 @@ fn version_2_layout(bytes: &[u8], longs: u8, seed_hash: u16) -> Option<Layout>
 /// The layout of an image of version 1: its preamble always has three longs, and no seed hash. It is `None` if the
 /// bytes end within the preamble, or if `unflagged_layout` is.
 #[tactic(auto, unfolding(crate::specs::ImageLayout::version_1_layout))]
-fn version_1_layout(bytes: &[u8], seed_hash: u16) -> Option<Layout>
+fn version_1_layout(bytes: &[u8], seed_hash: u16) -> Option<ImageLayout>
     ensures { result ≡ version_1_layout bytes.now seed_hash }
 {
     if bytes.len() < 24 {
@@ -84,7 +84,7 @@ fn version_1_layout(bytes: &[u8], seed_hash: u16) -> Option<Layout>
 /// The layout of an image by its preamble, or `None` if it isn't a theta sketch of version 1, 2 or 3 with 1 to 3
 /// preamble longs, or if that version's layout is `None`.
 #[tactic(auto, unfolding(crate::specs::ImageLayout::theta_layout))]
-fn theta_layout(bytes: &[u8], seed_hash: u16) -> Option<Layout>
+fn theta_layout(bytes: &[u8], seed_hash: u16) -> Option<ImageLayout>
     ensures { result ≡ theta_layout bytes.now seed_hash }
 {
     if bytes.len() < 8 || !(1 <= bytes[0] && bytes[0] <= 3) || bytes[2] != 3 {

@@ -8,7 +8,7 @@ use Rattle.core_slots.specs.declared.entry.TupleEntry.{TupleEntry}
 use Rattle.core_images.specs.Preamble.{flagged_layout, IsWholeLayout}
 use Rattle.core_images.specs.Read.{LeavesOpen}
 use Rattle.core_images.specs.Summary.{SpellsTuple}
-use Rattle.core_images.specs.declared.preamble.Layout.{Layout}
+use Rattle.core_images.specs.declared.preamble.ImageLayout.{ImageLayout}
 use Rattle.core_images.proofs.ImageLayouts.{along, chosen, flagged_from, flagged_to, either_whole, flagged_whole}
 use Rattle.tuple_sketches.specs.Image.{SpellsSketch, IsVersion, IsSketchType}
 use Rattle.tuple_sketches.specs.ImageLayout.{tuple_layout, is_read_version, is_sketch_type}
@@ -26,10 +26,10 @@ type_tested : (kind : ℕ) → is_sketch_type kind ≡ true → IsSketchType kin
 type_tested kind e = elim (cases_eq kind 1) [ inl same ↦ inl same | inr other ↦ inr (grind (arith, nat_tests, e, other)) ]
 
 module _ {S : Type 0} (Spells : List ℕ → S → Type 0) (bytes : List ℕ) (h : ℕ) where
-  abbrev pub Comes : Option Layout → Compact (TupleEntry S) → Type 0
+  abbrev pub Comes : Option ImageLayout → Compact (TupleEntry S) → Type 0
   Comes l s = LeavesOpen tuple_key (SpellsTuple Spells) bytes h l s
 
-  choice : (t : Bool) (a b : Option Layout) (s : Compact (TupleEntry S)) → Comes (cond t a b) s → ((t ≡ true) × Comes a s) ⊎ ((t ≡ false) × Comes b s)
+  choice : (t : Bool) (a b : Option ImageLayout) (s : Compact (TupleEntry S)) → Comes (cond t a b) s → ((t ≡ true) × Comes a s) ⊎ ((t ≡ false) × Comes b s)
   choice t a b s p = chosen tuple_key (SpellsTuple Spells) bytes h t a b s p
 
   begun : (s : Compact (TupleEntry S)) (r : SpellsSketch Spells bytes h s) → tuple_layout bytes h ≡ flagged_layout bytes r.longs h

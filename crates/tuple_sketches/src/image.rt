@@ -16,7 +16,7 @@ ghost use Rattle.tuple_sketches.specs.ImageLayout.{is_read_version, is_sketch_ty
 
 use crate::compact_sketch::CompactTupleSketch;
 use core_images::{
-    Layout, TupleSummaryValue, flagged_layout, read_after_preamble, write_image_with_capacity,
+    ImageLayout, TupleSummaryValue, flagged_layout, read_after_preamble, write_image_with_capacity,
 };
 use core_slots::TupleEntry;
 use sketch_base::{DEFAULT_UPDATE_SEED, Error, ErrorKind, Family, compute_seed_hash};
@@ -54,7 +54,7 @@ fn is_sketch_type(kind: u8) -> bool
 /// The layout of an image by its preamble, or `None` if it isn't a tuple sketch with 1 to 3 preamble longs and with a
 /// version and sketch type that are read, or if `flagged_layout` is `None`.
 #[tactic(auto, unfolding(crate::specs::ImageLayout::tuple_layout))]
-fn tuple_layout(bytes: &[u8], seed_hash: u16) -> Option<Layout>
+fn tuple_layout(bytes: &[u8], seed_hash: u16) -> Option<ImageLayout>
     ensures { result ≡ tuple_layout bytes.now seed_hash }
 {
     if bytes.len() < 8 || !(1 <= bytes[0] && bytes[0] <= 3) || bytes[2] != 9 {

@@ -1,6 +1,6 @@
 use Rattle.std.proofs.Common.{◌≡◌, ◌∙◌, ap, inr, Some}
 use Rattle.std.proofs.lemmas.Result.{err_from_is_err_and}
-use Rattle.core_images.specs.declared.preamble.Layout.TheVariants.{Filled}
+use Rattle.core_images.specs.declared.preamble.ImageLayout.TheVariants.{Filled}
 use Rattle.core_images.proofs.ReadEntries.{content_of, good_of, refused_weaker}
 use Rattle.core_images.proofs.read.read_after_preamble.Goals as goal
 
