@@ -107,12 +107,18 @@ def reading_line(chance, _):
 
 
 def estimates_line(chance, _):
-    """Bounds and decimals."""
+    """Numbers of estimates."""
     calls = []
     for _ in range(chance.randrange(1, 5)):
         count = chance.choice((0, 1, 16, 4096, chance.randrange(2**32)))
         theta = chance.choice((1, 1000, 2**62, MAX_THETA, chance.randrange(1, 2**63)))
-        calls.append(chance.choice((f"bounds {count} {theta} {chance.randrange(1, 4)}", f"decimal {count} {theta} {chance.randrange(20)}")))
+        low, high = chance.choice((0, 1, 2**64 - 1, chance.randrange(2**64))), chance.choice((0, theta - 1, chance.randrange(theta)))
+        words = (
+            f"bounds {count} {theta} {chance.randrange(1, 4)}", f"decimal {count} {theta} {chance.randrange(20)}",
+            f"fraction {chance.choice(('empty', 'nonempty'))} {count} {theta}", f"nearest {count} {theta}",
+            f"total {low} {high} {theta}", f"total_decimal {low} {high} {theta} {chance.randrange(20)}",
+        )  # fmt: skip
+        calls.append(chance.choice(words))
     return "estimates", calls
 
 

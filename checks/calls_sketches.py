@@ -9,7 +9,7 @@ from calls_words import ANY, FEW, Condition, Unknown, keys, number, octets, oper
 from model_hash import DEFAULT_SEED, hash_of
 from model_operators import Intersection, Union, difference
 from model_policies import Letters, Sums, policy_of
-from model_sketches import Compact, Sketch, decimal, fraction, read_image
+from model_sketches import Compact, Sketch, decimal, decimal_text, fraction, read_image
 from model_table import MAX_THETA, Refusal, check_settings
 
 ENTRY_SIZES = {"theta": 8, "u64": 16, "i64": 16, "u32": 16, "i32": 16}
@@ -428,6 +428,36 @@ class Estimates:
         if count >= 2**32 or theta == 0:
             raise Condition
         return decimal((range(count), theta), places), "0"
+
+    def do_fraction(self, kind, count, theta):
+        if kind not in ("empty", "nonempty"):
+            raise Unknown
+        count, theta = number(count), number(theta)
+        if count >= 2**32 or not 1 <= theta <= MAX_THETA:
+            raise Condition
+        return "0/1" if kind == "empty" else f"{count * MAX_THETA}/{theta}", "0"
+
+    def do_nearest(self, count, theta):
+        count, theta = number(count), number(theta)
+        if count >= 2**32 or not 1 <= theta <= MAX_THETA:
+            raise Condition
+        return str((2 * count * MAX_THETA + theta) // (2 * theta)), "0"
+
+    def do_total(self, low, high, theta):
+        over, theta = self.total_of(low, high, theta)
+        return str((2 * over + theta) // (2 * theta)), "0"
+
+    def do_total_decimal(self, low, high, theta, places):
+        over, theta = self.total_of(low, high, theta)
+        return decimal_text(over, theta, places_of(places)), "0"
+
+    @staticmethod
+    def total_of(low, high, theta):
+        """The estimate of a total: a fraction."""
+        low, high, theta = number(low), number(high), number(theta)
+        if not 1 <= theta <= MAX_THETA or high >= theta:
+            raise Condition
+        return (low + 2**64 * high) * MAX_THETA, theta
 
     def do_constants(self):
         return f"{MAX_THETA} 19 {DEFAULT_SEED} 3 1 1 5 0103090100" + "1e0000", "0"

@@ -1,12 +1,12 @@
-//! `estimates`: bounds and decimals of counts, and the public constants.
-ghost use Rattle.std.specs.Prelude.{◌<◌, ◌≤◌, ◌^◌, IfOk};
+//! `estimates`: fractions, decimals, nearest whole numbers and bounds of counts and totals, and the public constants.
+ghost use Rattle.std.specs.Prelude.{◌<◌, ◌≤◌, ◌*◌, ◌^◌, IfOk};
 ghost use Rattle.core_laws.specs.declared.TheConstants.{MAX_THETA};
 
 use calls_language::object::{Call, Memory, Object};
 use calls_language::settings::no_settings;
 use calls_language::shown::{decimal_of, places_of, put_decimal};
 use calls_language::words::{Fault, cut_word, number, put_bytes};
-use estimates::{Deviations, count_bounds};
+use estimates::{Deviations, count_bounds, count_fraction, nearest, nearest_total, total_decimal};
 use std::alloc::Global;
 use theta_sketches::{DEFAULT_UPDATE_SEED, MAX_PLACES, MAX_THETA};
 use tuple_sketches::{
@@ -76,6 +76,70 @@ fn put_estimate(words: &str, answer: &mut String) -> Result<(), Fault> {
     Ok(())
 }
 
+/// Appends the fraction that a count at a theta estimates: the words of a call.
+fn put_fraction(words: &str, answer: &mut String) -> Result<(), Fault> {
+    let (kind, rest) = cut_word(words);
+    let (count, theta) = cut_word(rest);
+    let empty = match kind {
+        "empty" => true,
+        "nonempty" => false,
+        _ => return Err(Fault::Unknown),
+    };
+    let count = retained_of(count)?;
+    let theta = theta_of(theta)?;
+    let (over, under) = count_fraction(empty, count as usize, theta);
+    write!(answer, "{over}/{under}")?;
+    Ok(())
+}
+
+/// Appends the nearest whole number to the estimate of a count at a theta: the words of a call.
+fn put_nearest(words: &str, answer: &mut String) -> Result<(), Fault> {
+    let (count, theta) = cut_word(words);
+    let over = u128::from(retained_of(count)?) * u128::from(MAX_THETA);
+    let under = u128::from(theta_of(theta)?);
+    let estimate = nearest(over, under);
+    write!(answer, "{estimate}")?;
+    Ok(())
+}
+
+/// A sum and a theta: a low half, a high half and theta. The high half is below theta.
+fn sum_of(low: &str, high: &str, theta: &str) -> Result<(u128, u64), Fault>
+    ensures low { IfOk result (λ r. 0 < r.1) }
+    ensures high { IfOk result (λ r. r.1 ≤ MAX_THETA) }
+    ensures small { IfOk result (λ r. r.0 < 2 ^ 64 * r.1) }
+{
+    let low = number(low)?;
+    let high = number(high)?;
+    let theta = theta_of(theta)?;
+    if high < theta {
+        let sum = u128::from(high) * 18446744073709551616 + u128::from(low);
+        Ok((sum, theta))
+    } else {
+        Err(Fault::Condition)
+    }
+}
+
+/// Appends the estimate of a total, rounded to the nearest whole number: the words of a call.
+fn put_total(words: &str, answer: &mut String) -> Result<(), Fault> {
+    let (low, rest) = cut_word(words);
+    let (high, theta) = cut_word(rest);
+    let (sum, theta) = sum_of(low, high, theta)?;
+    let total = nearest_total(sum, theta);
+    write!(answer, "{total}")?;
+    Ok(())
+}
+
+/// Appends the estimate of a total as a decimal number: the words of a call.
+fn put_total_decimal(words: &str, answer: &mut String) -> Result<(), Fault> {
+    let (low, rest) = cut_word(words);
+    let (high, rest) = cut_word(rest);
+    let (theta, places) = cut_word(rest);
+    let (sum, theta) = sum_of(low, high, theta)?;
+    let places = places_of(places)?;
+    put_decimal(answer, total_decimal(sum, theta, places))?;
+    Ok(())
+}
+
 /// Appends the constants of the libraries.
 fn put_constants(answer: &mut String) -> Result<(), Fault> {
     write!(answer, "{MAX_THETA} {MAX_PLACES} {DEFAULT_UPDATE_SEED}")?;
@@ -101,7 +165,11 @@ impl<A: Drop> Object<A> for Estimating {
     ) -> Result<(), Fault> {
         match (call.verb, call.argument) {
             ("bounds", words) => put_bounds(words, answer),
+            ("fraction", words) => put_fraction(words, answer),
             ("decimal", words) => put_estimate(words, answer),
+            ("nearest", words) => put_nearest(words, answer),
+            ("total", words) => put_total(words, answer),
+            ("total_decimal", words) => put_total_decimal(words, answer),
             ("constants", "") => put_constants(answer),
             ("see", "") => {
                 answer.push_str("ok")?;
