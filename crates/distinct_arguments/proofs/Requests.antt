@@ -7,7 +7,7 @@ use Rattle.std.specs.Str.{bytes_eq}
 use Rattle.std.proofs.lemmas.Bool.Decides.{nat_tests}
 use Rattle.distinct_arguments.specs.Words.{command_of, is_help, is_version, is_dir, is_option, split_option}
 use Rattle.distinct_arguments.specs.Settings.{OptionValues, default_options, Mistake, behind_file, standard_twice, with_value}
-use Rattle.distinct_arguments.specs.Arguments.{Action, runs, fails, Awaiting, Meaning, help, sets, awaits, wrong, setting_meaning, standard_uses, has_one_expression, has_lone_field, has_lone_sum, is_separator_lone, has_lone_groups, has_two_amounts, has_plain_sums, has_lone_digits, has_summed_bounds, listed_action, grouped_action, summed_action, added_action, run_action, at_meaning, at_value, command_action, first_action, Placed, within, placed_action, action_of, ReadsOnce}
+use Rattle.distinct_arguments.specs.Arguments.{Action, runs, fails, Awaiting, Meaning, help, sets, awaits, wrong, setting_meaning, standard_uses, has_one_expression, lacks_keys, lacks_value, lacks_field, lacks_output, has_two_amounts, groups_sums, watches_sums, lacks_sums, bounds_total, listed_action, grouped_action, summed_action, added_action, run_action, at_meaning, at_value, command_action, first_action, Placed, within, placed_action, action_of, ReadsOnce}
 use Rattle.distinct_arguments.specs.declared.commands.Command.{Command}
 
 -- what runs at the end of two tests and a third
@@ -30,24 +30,24 @@ once_listed command options files =
 
 once_grouped : (command : Command) (options : OptionValues) (files : List (List ℕ)) → ReadsOnce (grouped_action command options files)
 once_grouped command options files =
-    at_tests (has_lone_groups command options) (is_some options.sort && is_none options.by) _ _ _ tt tt
+    at_tests (lacks_output command options) (is_some options.sort && is_none options.by) _ _ _ tt tt
     (at_tests (options.groups && not options.hex) (options.groups && is_some options.expected) _ _ _ tt tt
     (at_tests (is_some options.folder && is_none options.by) (is_some options.folder && is_some options.output) _ _ _ tt tt (once_listed command options files)))
 
 once_summed : (command : Command) (options : OptionValues) (files : List (List ℕ)) → ReadsOnce (summed_action command options files)
 once_summed command options files =
     at_tests (options.sums && options.keys) (options.sums && is_some options.field) _ _ _ tt tt
-    (at_tests (options.sums && options.groups) (has_summed_bounds command options) _ _ _ tt tt (once_grouped command options files))
+    (at_tests (options.sums && options.groups) (bounds_total command options) _ _ _ tt tt (once_grouped command options files))
 
 once_added : (command : Command) (options : OptionValues) (files : List (List ℕ)) → ReadsOnce (added_action command options files)
 once_added command options files =
-    at_tests (has_two_amounts options) (has_plain_sums command options) _ _ _ tt tt
-    (at_list (has_lone_digits command options) _ _ tt (once_summed command options files))
+    at_tests (has_two_amounts options) (groups_sums command options) _ _ _ tt tt
+    (at_tests (watches_sums command options) (lacks_sums command options) _ _ _ tt tt (once_summed command options files))
 
 once_run : (command : Command) (options : OptionValues) (files : List (List ℕ)) → ReadsOnce (run_action command options files)
 once_run command options files =
-    at_tests (not (has_one_expression command files)) (has_lone_field command options) _ _ _ tt tt
-    (at_tests (has_lone_sum command options) (is_separator_lone options) _ _ _ tt tt (once_added command options files))
+    at_tests (not (has_one_expression command files)) (lacks_keys command options) _ _ _ tt tt
+    (at_tests (lacks_value command options) (lacks_field options) _ _ _ tt tt (once_added command options files))
 
 at_found : (found : Option (List ℕ)) (run : Action) → ReadsOnce run → ReadsOnce (option_map_or (λ w. fails (behind_file w)) found run)
 at_found None run once = once

@@ -4,21 +4,22 @@ use Rattle.std.specs.Prelude.{codes, Option, Some, None, is_some, is_none, Resul
 use Rattle.std.specs.Option.{option_map_or}
 use Rattle.std.specs.List.{find}
 use Rattle.std.specs.Str.{bytes_eq}
-use Rattle.distinct_arguments.specs.Words.{command_of, option_called, has_option, reads_lines, reads_expression}
+use Rattle.distinct_arguments.specs.Words.{command_of, option_of, has_option, reads_lines, reads_expression}
 use Rattle.distinct_arguments.specs.Words.{is_help, is_version, is_dir, is_option, is_standard, Setting}
 use Rattle.distinct_arguments.specs.Words.{split_option}
 use Rattle.distinct_arguments.specs.Settings.{SeedValue, seed_number, seed_file, OptionValues, default_options}
 use Rattle.distinct_arguments.specs.Settings.{Mistake, no_command, unknown_command, unknown_option, behind_file}
-use Rattle.distinct_arguments.specs.Settings.{no_value, unneeded_value, not_one_expression, lone_field, lone_sum}
-use Rattle.distinct_arguments.specs.Settings.{lone_separator, two_amounts, plain_sums, lone_digits, summed_keys}
-use Rattle.distinct_arguments.specs.Settings.{summed_field, summed_groups, summed_bounds, lone_groups, lone_order}
-use Rattle.distinct_arguments.specs.Settings.{lone_unions, counted_groups, lone_folder, two_outputs, files_and_list}
-use Rattle.distinct_arguments.specs.Settings.{standard_twice, with_flag, with_value}
+use Rattle.distinct_arguments.specs.Settings.{no_value, unneeded_value, not_one_expression, sum_needs_value}
+use Rattle.distinct_arguments.specs.Settings.{separator_needs_field, groups_need_output, needs, excludes}
+use Rattle.distinct_arguments.specs.Settings.{list_excludes_files, standard_twice, with_flag, with_value}
 use Rattle.distinct_arguments.specs.declared.commands.Command.{Command}
 use Rattle.distinct_arguments.specs.declared.commands.Topic.{Topic}
 use Rattle.distinct_arguments.specs.declared.commands.Topic.TheVariants.{Program, Version, Help}
-use Rattle.distinct_arguments.specs.declared.commands.Command.TheVariants.{Sketch, Visits, Sum}
+use Rattle.distinct_arguments.specs.declared.commands.Command.TheVariants.{Sketch, Visits as VisitsCommand, Sum}
 use Rattle.distinct_arguments.specs.declared.options.OptionName.{OptionName}
+use Rattle.distinct_arguments.specs.declared.options.OptionName.TheVariants.{Field, By, Sort, Value, Visits, Groups}
+use Rattle.distinct_arguments.specs.declared.options.OptionName.TheVariants.{Sums, Expect, Progress, Bounds, Hex}
+use Rattle.distinct_arguments.specs.declared.options.OptionName.TheVariants.{Output, OutputDir, Keys}
 
 -- what the program does: it prints a text, runs a command on files, or fails
 pub data Action : Type 0 where
@@ -63,7 +64,7 @@ option_meaning command options setting option =
 abbrev pub setting_meaning : Command → OptionValues → Setting → Meaning
 setting_meaning command options setting =
     if is_help setting.name then help_meaning setting else
-    option_map_or (option_meaning command options setting) (option_called setting.name) (wrong (unknown_option setting.name))
+    option_map_or (option_meaning command options setting) (option_of setting.name) (wrong (unknown_option setting.name))
 
 -- how often files are standard input
 abbrev pub standard_files : (files : List (List ℕ)) → ℕ
@@ -96,83 +97,96 @@ abbrev pub has_one_expression : Command → (files : List (List ℕ)) → Bool
 has_one_expression command files = not (reads_expression command) || length files == 1
 
 -- a command that reads an expression has `--field` but not `--keys`, and so reads no lines
-abbrev pub has_lone_field : Command → OptionValues → Bool
-has_lone_field command options = reads_expression command && is_some options.field && not options.keys
+abbrev pub lacks_keys : Command → OptionValues → Bool
+lacks_keys command options = reads_expression command && is_some options.field && not options.keys
 
 -- numbers are to be summed, but no field of them is chosen
-abbrev pub has_lone_sum : Command → OptionValues → Bool
-has_lone_sum Sum options = is_none options.value
-has_lone_sum _ options = false
+abbrev pub lacks_value : Command → OptionValues → Bool
+lacks_value Sum options = is_none options.value
+lacks_value _ options = false
 
 -- a separator is chosen, but no field
-abbrev pub is_separator_lone : OptionValues → Bool
-is_separator_lone options = is_some options.separator && is_none options.field && is_none options.by && is_none options.value
+abbrev pub lacks_field : OptionValues → Bool
+lacks_field options = is_some options.separator && is_none options.field && is_none options.by && is_none options.value
 
 -- sketches of groups would be written as bytes one after another: neither in hexadecimal digits nor to files of their own
-abbrev pub has_lone_groups : Command → OptionValues → Bool
-has_lone_groups Sketch options = is_some options.by && not options.hex && is_none options.folder
-has_lone_groups _ options = false
+abbrev pub lacks_output : Command → OptionValues → Bool
+lacks_output Sketch options = is_some options.by && not options.hex && is_none options.folder
+lacks_output _ options = false
 
 -- lines would add both their numbers and one
 abbrev pub has_two_amounts : OptionValues → Bool
 has_two_amounts options = options.visits && is_some options.value
 
--- a sketch of sums would be grouped or watched
-abbrev pub has_plain_sums : Command → OptionValues → Bool
-has_plain_sums Sketch options = (is_some options.value || options.visits) && (is_some options.by || options.progress)
-has_plain_sums _ options = false
+-- the option by which lines add to sums, if one of the two does
+abbrev pub amount_option : OptionValues → OptionName
+amount_option options = if options.visits then Visits else Value
+
+-- a command sketches sums
+abbrev pub adds_to_sums : Command → OptionValues → Bool
+adds_to_sums Sketch options = is_some options.value || options.visits
+adds_to_sums _ options = false
+
+-- a sketch of sums would be grouped
+abbrev pub groups_sums : Command → OptionValues → Bool
+groups_sums command options = adds_to_sums command options && is_some options.by
+
+-- a sketch of sums would be watched
+abbrev pub watches_sums : Command → OptionValues → Bool
+watches_sums command options = adds_to_sums command options && options.progress
 
 -- lines would be read in hexadecimal digits
-abbrev pub has_lone_digits : Command → OptionValues → Bool
-has_lone_digits Visits options = options.hex && not options.sums
-has_lone_digits _ options = false
+abbrev pub lacks_sums : Command → OptionValues → Bool
+lacks_sums VisitsCommand options = options.hex && not options.sums
+lacks_sums _ options = false
 
 -- bounds are requested of a total, which has none
-abbrev pub has_summed_bounds : Command → OptionValues → Bool
-has_summed_bounds command options = reads_expression command && options.sums && is_some options.bounds
+abbrev pub bounds_total : Command → OptionValues → Bool
+bounds_total command options = reads_expression command && options.sums && is_some options.bounds
 
 -- what a command does with its files, unless they don't fit a list of files, or standard input would be read twice
 abbrev pub listed_action : Command → OptionValues → (files : List (List ℕ)) → Action
 listed_action command options files =
-    if is_some options.list && not (length files == 0) then fails files_and_list else
+    if is_some options.list && not (length files == 0) then fails list_excludes_files else
     if nat_lt 1 (standard_uses command options files) then fails standard_twice else
     runs command options files
 
 -- .. unless its options for groups don't fit together
 abbrev pub grouped_action : Command → OptionValues → (files : List (List ℕ)) → Action
 grouped_action command options files =
-    if has_lone_groups command options then fails lone_groups else
-    if is_some options.sort && is_none options.by then fails lone_order else
-    if options.groups && not options.hex then fails lone_unions else
-    if options.groups && is_some options.expected then fails counted_groups else
-    if is_some options.folder && is_none options.by then fails lone_folder else
-    if is_some options.folder && is_some options.output then fails two_outputs else
+    if lacks_output command options then fails groups_need_output else
+    if is_some options.sort && is_none options.by then fails (needs Sort By) else
+    if options.groups && not options.hex then fails (needs Groups Hex) else
+    if options.groups && is_some options.expected then fails (excludes Expect Groups) else
+    if is_some options.folder && is_none options.by then fails (needs OutputDir By) else
+    if is_some options.folder && is_some options.output then fails (excludes Output OutputDir) else
     listed_action command options files
 
 -- .. and unless its options for images of sums don't fit together
 abbrev pub summed_action : Command → OptionValues → (files : List (List ℕ)) → Action
 summed_action command options files =
-    if options.sums && options.keys then fails summed_keys else
-    if options.sums && is_some options.field then fails summed_field else
-    if options.sums && options.groups then fails summed_groups else
-    if has_summed_bounds command options then fails summed_bounds else
+    if options.sums && options.keys then fails (excludes Sums Keys) else
+    if options.sums && is_some options.field then fails (excludes Sums Field) else
+    if options.sums && options.groups then fails (excludes Sums Groups) else
+    if bounds_total command options then fails (excludes Sums Bounds) else
     grouped_action command options files
 
 -- .. and unless its options for the sums of lines don't fit together
 abbrev pub added_action : Command → OptionValues → (files : List (List ℕ)) → Action
 added_action command options files =
-    if has_two_amounts options then fails two_amounts else
-    if has_plain_sums command options then fails plain_sums else
-    if has_lone_digits command options then fails lone_digits else
+    if has_two_amounts options then fails (excludes Value Visits) else
+    if groups_sums command options then fails (excludes (amount_option options) By) else
+    if watches_sums command options then fails (excludes (amount_option options) Progress) else
+    if lacks_sums command options then fails (needs Hex Sums) else
     summed_action command options files
 
 -- what a command does with its options and files, unless they don't fit together
 abbrev pub run_action : Command → OptionValues → (files : List (List ℕ)) → Action
 run_action command options files =
     if not (has_one_expression command files) then fails not_one_expression else
-    if has_lone_field command options then fails lone_field else
-    if has_lone_sum command options then fails lone_sum else
-    if is_separator_lone options then fails lone_separator else
+    if lacks_keys command options then fails (needs Field Keys) else
+    if lacks_value command options then fails sum_needs_value else
+    if lacks_field options then fails separator_needs_field else
     added_action command options files
 
 -- .. if no file looks like an option

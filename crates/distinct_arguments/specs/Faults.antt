@@ -9,11 +9,9 @@ use Rattle.distinct_arguments.specs.Settings.{SeedValue, seed_number, seed_file,
 use Rattle.distinct_arguments.specs.Settings.{unknown_command, unknown_option, behind_file, no_value}
 use Rattle.distinct_arguments.specs.Settings.{unneeded_value, wrong_size, wrong_field, wrong_group, wrong_value}
 use Rattle.distinct_arguments.specs.Settings.{wrong_order, wrong_separator, wrong_seed, wrong_deviations}
-use Rattle.distinct_arguments.specs.Settings.{wrong_count, not_one_expression, lone_field, lone_sum, lone_separator}
-use Rattle.distinct_arguments.specs.Settings.{two_amounts, plain_sums, lone_digits, summed_keys, summed_field}
-use Rattle.distinct_arguments.specs.Settings.{summed_groups, summed_bounds, lone_groups, lone_order, lone_unions}
-use Rattle.distinct_arguments.specs.Settings.{counted_groups, lone_folder, two_outputs, files_and_list}
-use Rattle.distinct_arguments.specs.Settings.{standard_twice}
+use Rattle.distinct_arguments.specs.Settings.{wrong_count, not_one_expression, sum_needs_value}
+use Rattle.distinct_arguments.specs.Settings.{separator_needs_field, groups_need_output, needs, excludes}
+use Rattle.distinct_arguments.specs.Settings.{list_excludes_files, standard_twice}
 use Rattle.distinct_arguments.specs.Words.{words_of}
 use Rattle.distinct_arguments.specs.declared.arguments.Meaning.{Meaning as MeaningOf}
 use Rattle.distinct_arguments.specs.declared.arguments.Meaning.TheVariants.{Help as MeansHelp, Sets, Awaits}
@@ -32,12 +30,9 @@ use Rattle.distinct_arguments.specs.declared.fault.Fault.TheVariants.{BehindFile
 use Rattle.distinct_arguments.specs.declared.fault.Fault.TheVariants.{WrongField, WrongGroup, WrongValue}
 use Rattle.distinct_arguments.specs.declared.fault.Fault.TheVariants.{WrongOrder, WrongSeparator, WrongSeed}
 use Rattle.distinct_arguments.specs.declared.fault.Fault.TheVariants.{ZeroSeed, WrongDeviations, WrongCount}
-use Rattle.distinct_arguments.specs.declared.fault.Fault.TheVariants.{NotOneExpression, LoneField, LoneSum}
-use Rattle.distinct_arguments.specs.declared.fault.Fault.TheVariants.{LoneSeparator, TwoAmounts, PlainSums}
-use Rattle.distinct_arguments.specs.declared.fault.Fault.TheVariants.{LoneDigits, SummedKeys, SummedField}
-use Rattle.distinct_arguments.specs.declared.fault.Fault.TheVariants.{SummedGroups, SummedBounds, LoneGroups}
-use Rattle.distinct_arguments.specs.declared.fault.Fault.TheVariants.{LoneOrder, LoneUnions, CountedGroups}
-use Rattle.distinct_arguments.specs.declared.fault.Fault.TheVariants.{LoneFolder, TwoOutputs, FilesAndList}
+use Rattle.distinct_arguments.specs.declared.fault.Fault.TheVariants.{NotOneExpression, SumNeedsValue}
+use Rattle.distinct_arguments.specs.declared.fault.Fault.TheVariants.{SeparatorNeedsField, GroupsNeedOutput}
+use Rattle.distinct_arguments.specs.declared.fault.Fault.TheVariants.{Needs, Excludes, ListExcludesFiles}
 use Rattle.distinct_arguments.specs.declared.fault.Fault.TheVariants.{StandardTwice, Memory}
 use Rattle.distinct_arguments.specs.declared.fault.WrongWord.{WrongWord}
 use Rattle.distinct_arguments.specs.declared.fault.WrongWord.TheVariants as wrong_word
@@ -98,23 +93,12 @@ mistake_of (ZeroSeed number) = Some wrong_seed
 mistake_of WrongDeviations = Some wrong_deviations
 mistake_of WrongCount = Some wrong_count
 mistake_of NotOneExpression = Some not_one_expression
-mistake_of LoneField = Some lone_field
-mistake_of LoneSum = Some lone_sum
-mistake_of LoneSeparator = Some lone_separator
-mistake_of TwoAmounts = Some two_amounts
-mistake_of PlainSums = Some plain_sums
-mistake_of LoneDigits = Some lone_digits
-mistake_of SummedKeys = Some summed_keys
-mistake_of SummedField = Some summed_field
-mistake_of SummedGroups = Some summed_groups
-mistake_of SummedBounds = Some summed_bounds
-mistake_of LoneGroups = Some lone_groups
-mistake_of LoneOrder = Some lone_order
-mistake_of LoneUnions = Some lone_unions
-mistake_of CountedGroups = Some counted_groups
-mistake_of LoneFolder = Some lone_folder
-mistake_of TwoOutputs = Some two_outputs
-mistake_of FilesAndList = Some files_and_list
+mistake_of SumNeedsValue = Some sum_needs_value
+mistake_of SeparatorNeedsField = Some separator_needs_field
+mistake_of GroupsNeedOutput = Some groups_need_output
+mistake_of (Needs option other) = Some (needs option other)
+mistake_of (Excludes option other) = Some (excludes option other)
+mistake_of ListExcludesFiles = Some list_excludes_files
 mistake_of StandardTwice = Some standard_twice
 mistake_of Memory = None
 

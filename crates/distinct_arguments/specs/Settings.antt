@@ -103,23 +103,12 @@ pub data Mistake : Type 0 where
   wrong_deviations : Mistake
   wrong_count : Mistake
   not_one_expression : Mistake
-  lone_field : Mistake
-  lone_sum : Mistake
-  lone_separator : Mistake
-  two_amounts : Mistake
-  plain_sums : Mistake
-  lone_digits : Mistake
-  summed_keys : Mistake
-  summed_field : Mistake
-  summed_groups : Mistake
-  summed_bounds : Mistake
-  lone_groups : Mistake
-  lone_order : Mistake
-  lone_unions : Mistake
-  counted_groups : Mistake
-  lone_folder : Mistake
-  two_outputs : Mistake
-  files_and_list : Mistake
+  sum_needs_value : Mistake
+  separator_needs_field : Mistake
+  groups_need_output : Mistake
+  needs : (option other : OptionName) → Mistake
+  excludes : (option other : OptionName) → Mistake
+  list_excludes_files : Mistake
   standard_twice : Mistake
 
 -- the options after an option without a value, if it needs none

@@ -73,8 +73,8 @@ split_option word = record {
 }
 
 -- the option of a name
-abbrev pub option_called : List ℕ → Option OptionName
-option_called name =
+abbrev pub option_of : List ℕ → Option OptionName
+option_of name =
     if bytes_eq name (codes "--lg-k") then Some LgK else
     if bytes_eq name (codes "--field") then Some Field else
     if bytes_eq name (codes "--separator") then Some Separator else

@@ -13,7 +13,7 @@ use crate::files::{files_request, run_request};
 use crate::options::{OptionName, Options};
 use crate::settings::{with_flag, with_value};
 use crate::words::{
-    command_of, has_option, is_dir, is_help, is_option, is_version, option_called, split_option,
+    command_of, has_option, is_dir, is_help, is_option, is_version, option_of, split_option,
 };
 use std::alloc::Global;
 
@@ -71,7 +71,7 @@ fn meaning_of<'a>(
             None => Meaning::Help,
         };
     }
-    match option_called(name) {
+    match option_of(name) {
         Some(option) => meaning_of_option(alloc, command, options, option, name, value),
         None => Meaning::Wrong(quoting(alloc, WrongWord::UnknownOption, name)),
     }
@@ -221,8 +221,8 @@ pub fn front_of(words: &[String]) -> Front<'_>
 
 /// What the arguments request, without the program's name. In front of the command each `-C` has a folder
 /// (`front_of`). If they are wrong, it fails with the first fault of a word from the left; if no word has one, with
-/// the first that applies of `NotOneExpression`, `LoneField`, `LoneSum`, `LoneSeparator`, those of sums and of
-/// groups, `FilesAndList` and `StandardTwice`. If memory for the text of a fault is refused, it fails with `Memory`.
+/// the first that applies of `NotOneExpression`, `Needs` of `--field`, `SumNeedsValue`, `SeparatorNeedsField`, those
+/// of sums and of groups, `ListExcludesFiles` and `StandardTwice`. If memory for the text of a fault is refused, it fails with `Memory`.
 pub fn read_arguments(words: &[String]) -> Result<Request<'_>, Fault>
     ensures { ParsesAs result (action_of (words_of words.now)) }
 {

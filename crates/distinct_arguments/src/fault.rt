@@ -3,7 +3,8 @@ ghost use Rattle.std.specs.Prelude.{◌≡◌};
 ghost use Rattle.distinct_arguments.specs.Settings.{wrong_seed};
 ghost use Rattle.distinct_arguments.specs.Faults.{Reports, fault_status, mistake_with};
 
-use crate::words::number_of;
+use crate::options::OptionName;
+use crate::words::{name_of, number_of};
 use std::alloc::Global;
 use std::fmt;
 
@@ -44,40 +45,18 @@ pub enum Fault {
     WrongCount,
     /// `eval` doesn't have exactly one argument after its options.
     NotOneExpression,
-    /// `eval` has `--field` without `--keys`.
-    LoneField,
     /// `sum` has no `--value`.
-    LoneSum,
+    SumNeedsValue,
     /// There is `--separator` without `--field`, `--by` and `--value`.
-    LoneSeparator,
-    /// There are both `--value` and `--visits`.
-    TwoAmounts,
-    /// `sketch` has `--value` or `--visits`, and `--by` or `--progress`.
-    PlainSums,
-    /// `visits` has `--hex` without `--sums`.
-    LoneDigits,
-    /// There are both `--sums` and `--keys`.
-    SummedKeys,
-    /// There are both `--sums` and `--field`.
-    SummedField,
-    /// There are both `--sums` and `--groups`.
-    SummedGroups,
-    /// `eval` has `--sums` and `--bounds`.
-    SummedBounds,
+    SeparatorNeedsField,
     /// `sketch` has `--by` without `--hex` and without `--output-dir`.
-    LoneGroups,
-    /// There is `--sort` without `--by`.
-    LoneOrder,
-    /// There is `--groups` without `--hex`.
-    LoneUnions,
-    /// There are both `--groups` and `--expect`.
-    CountedGroups,
-    /// There is `--output-dir` without `--by`.
-    LoneFolder,
-    /// There are both `--output` and `--output-dir`.
-    TwoOutputs,
+    GroupsNeedOutput,
+    /// There is the first option, which needs the second, without it.
+    Needs(OptionName, OptionName),
+    /// There are two options that exclude each other.
+    Excludes(OptionName, OptionName),
     /// There are both `--files0-from` and a file.
-    FilesAndList,
+    ListExcludesFiles,
     /// Standard input would be read twice.
     StandardTwice,
     /// Memory for the text of a fault was refused.
@@ -155,6 +134,35 @@ impl fmt::Display for Escaped<'_> {
     }
 }
 
+/// What an option is for that needs another, as the end of a message.
+fn why_needed(option: OptionName) -> &'static str {
+    match option {
+        OptionName::Field => ": without it eval reads images",
+        OptionName::Hex => ": without it visits reads lines",
+        OptionName::Sort => ", whose groups it orders",
+        _ => "",
+    }
+}
+
+/// What to do in place of using two options together, as the end of a message.
+fn why_excluded(option: OptionName, other: OptionName) -> &'static str {
+    match (option, other) {
+        (OptionName::Value, OptionName::Visits) => ": a line adds either its number or 1",
+        (OptionName::Sums, OptionName::Keys) => {
+            ": sketch --value N makes images of sums from lines"
+        }
+        (OptionName::Sums, OptionName::Field) => ": pass --field to sketch --visits",
+        (OptionName::Sums, OptionName::Groups) => {
+            ": unite the images of each group in a run of their own"
+        }
+        (OptionName::Sums, OptionName::Bounds) => ": a total has no bounds",
+        (OptionName::Expect, OptionName::Groups) => ": drop --expect",
+        (_, OptionName::By) => ": run sketch once per group",
+        (_, OptionName::Progress) => ": drop --progress",
+        _ => "",
+    }
+}
+
 impl fmt::Display for Fault {
     fn fmt<W: fmt::Write>(&self, f: &mut fmt::Formatter<W>) -> fmt::Result {
         match self {
@@ -203,47 +211,26 @@ impl fmt::Display for Fault {
                 f,
                 "eval takes one expression in quotes, such as 'mon + tue - wed'"
             ),
-            Fault::LoneField => write!(
+            Fault::SumNeedsValue => {
+                write!(f, "sum needs --value M, the field that has the numbers")
+            }
+            Fault::SeparatorNeedsField => write!(f, "--separator needs --field, --by or --value"),
+            Fault::GroupsNeedOutput => write!(f, "--by needs --hex or --output-dir"),
+            Fault::Needs(option, other) => write!(
                 f,
-                "eval --field needs --keys: without it the files have images"
+                "{} needs {}{}",
+                name_of(*option),
+                name_of(*other),
+                why_needed(*option)
             ),
-            Fault::LoneSum => write!(f, "sum needs --value M, the field that has the numbers"),
-            Fault::LoneSeparator => write!(f, "--separator needs --field, --by or --value"),
-            Fault::TwoAmounts => write!(
+            Fault::Excludes(option, other) => write!(
                 f,
-                "--value and --visits exclude each other: a line adds either its number or 1"
+                "{} and {} exclude each other{}",
+                name_of(*option),
+                name_of(*other),
+                why_excluded(*option, *other)
             ),
-            Fault::PlainSums => write!(
-                f,
-                "--value and --visits exclude --by and --progress: run sketch once per group, without --progress"
-            ),
-            Fault::LoneDigits => write!(
-                f,
-                "visits --hex needs --sums: without it visits reads lines"
-            ),
-            Fault::SummedKeys => write!(
-                f,
-                "--sums and --keys exclude each other: sketch --value N makes images of sums from lines"
-            ),
-            Fault::SummedField => write!(
-                f,
-                "--sums and --field exclude each other: pass --field to sketch --visits"
-            ),
-            Fault::SummedGroups => write!(
-                f,
-                "--sums and --groups exclude each other: unite the images of each group in a run of their own"
-            ),
-            Fault::SummedBounds => write!(f, "--sums prints a total without bounds: drop --bounds"),
-            Fault::LoneGroups => write!(f, "--by needs --hex or --output-dir"),
-            Fault::LoneOrder => write!(f, "--sort orders groups: pass --by N too"),
-            Fault::LoneUnions => write!(f, "--groups needs --hex"),
-            Fault::CountedGroups => write!(
-                f,
-                "--expect and --groups exclude each other: drop --expect"
-            ),
-            Fault::LoneFolder => write!(f, "--output-dir needs --by"),
-            Fault::TwoOutputs => write!(f, "--output and --output-dir exclude each other"),
-            Fault::FilesAndList => write!(
+            Fault::ListExcludesFiles => write!(
                 f,
                 "files are named by arguments and by --files0-from: use one of the two"
             ),

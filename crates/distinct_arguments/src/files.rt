@@ -3,9 +3,10 @@ ghost use Rattle.std.specs.Prelude.{◌≡◌, ◌≤◌, ◌+◌, nat_lt, strin
 ghost use Rattle.std.specs.Option.{option_map};
 ghost use Rattle.std.specs.List.{find};
 ghost use Rattle.distinct_arguments.specs.Arguments.{standard_files, standard_uses, is_standard_seed, is_standard_list};
-ghost use Rattle.distinct_arguments.specs.Arguments.{is_standard_default, has_one_expression, has_lone_sum};
-ghost use Rattle.distinct_arguments.specs.Arguments.{is_separator_lone, has_lone_groups};
-ghost use Rattle.distinct_arguments.specs.Arguments.{has_two_amounts, has_plain_sums, has_lone_digits};
+ghost use Rattle.distinct_arguments.specs.Arguments.{is_standard_default, has_one_expression, lacks_value};
+ghost use Rattle.distinct_arguments.specs.Arguments.{lacks_field, lacks_output};
+ghost use Rattle.distinct_arguments.specs.Arguments.{amount_option, has_two_amounts, adds_to_sums, groups_sums};
+ghost use Rattle.distinct_arguments.specs.Arguments.{watches_sums, lacks_sums};
 ghost use Rattle.distinct_arguments.specs.Arguments.{run_action, added_action, summed_action, grouped_action};
 ghost use Rattle.distinct_arguments.specs.Arguments.{listed_action, files_action};
 ghost use Rattle.distinct_arguments.specs.Faults.{options_of, seed_value, ParsesAs};
@@ -13,7 +14,7 @@ ghost use Rattle.distinct_arguments.specs.Words.{is_option, is_standard, reads_l
 
 use crate::commands::{Command, Request};
 use crate::fault::{Fault, WrongWord, quoting};
-use crate::options::{Options, Seed};
+use crate::options::{OptionName, Options, Seed};
 use crate::words::is_option;
 
 /// Whether a file name means standard input.
@@ -115,8 +116,8 @@ fn is_read_twice(command: Command, options: &Options<'_>, files: &[String]) -> b
 }
 
 /// Whether a command would write sketches of groups as bytes one after another.
-fn has_lone_groups(command: Command, options: &Options<'_>) -> bool
-    ensures { result ≡ has_lone_groups command (options_of options.now) }
+fn lacks_output(command: Command, options: &Options<'_>) -> bool
+    ensures { result ≡ lacks_output command (options_of options.now) }
 {
     match command {
         Command::Sketch => { options.by.is_some() && !options.hex && options.folder.is_none() }
@@ -125,8 +126,8 @@ fn has_lone_groups(command: Command, options: &Options<'_>) -> bool
 }
 
 /// Whether a command sums numbers, and no field has them.
-fn has_lone_sum(command: Command, options: &Options<'_>) -> bool
-    ensures { result ≡ has_lone_sum command (options_of options.now) }
+fn lacks_value(command: Command, options: &Options<'_>) -> bool
+    ensures { result ≡ lacks_value command (options_of options.now) }
 {
     match command {
         Command::Sum => options.value.is_none(),
@@ -141,22 +142,44 @@ fn has_two_amounts(options: &Options<'_>) -> bool
     options.visits && options.value.is_some()
 }
 
-/// Whether a sketch of sums would be grouped or watched.
-fn has_plain_sums(command: Command, options: &Options<'_>) -> bool
-    ensures { result ≡ has_plain_sums command (options_of options.now) }
+/// The option by which lines add to sums, if one of the two does.
+fn amount_option(options: &Options<'_>) -> OptionName
+    ensures { result ≡ amount_option (options_of options.now) }
+{
+    if options.visits {
+        OptionName::Visits
+    } else {
+        OptionName::Value
+    }
+}
+
+/// Whether a command sketches sums.
+fn adds_to_sums(command: Command, options: &Options<'_>) -> bool
+    ensures { result ≡ adds_to_sums command (options_of options.now) }
 {
     match command {
-        Command::Sketch => {
-            let sums = options.value.is_some() || options.visits;
-            sums && (options.by.is_some() || options.progress)
-        }
+        Command::Sketch => options.value.is_some() || options.visits,
         _ => false,
     }
 }
 
+/// Whether a sketch of sums would be grouped.
+fn groups_sums(command: Command, options: &Options<'_>) -> bool
+    ensures { result ≡ groups_sums command (options_of options.now) }
+{
+    adds_to_sums(command, options) && options.by.is_some()
+}
+
+/// Whether a sketch of sums would be watched.
+fn watches_sums(command: Command, options: &Options<'_>) -> bool
+    ensures { result ≡ watches_sums command (options_of options.now) }
+{
+    adds_to_sums(command, options) && options.progress
+}
+
 /// Whether a command would read lines in hexadecimal digits.
-fn has_lone_digits(command: Command, options: &Options<'_>) -> bool
-    ensures { result ≡ has_lone_digits command (options_of options.now) }
+fn lacks_sums(command: Command, options: &Options<'_>) -> bool
+    ensures { result ≡ lacks_sums command (options_of options.now) }
 {
     match command {
         Command::Visits => options.hex && !options.sums,
@@ -165,8 +188,8 @@ fn has_lone_digits(command: Command, options: &Options<'_>) -> bool
 }
 
 /// Whether there is a separator, but no option that chooses a field.
-fn is_separator_lone(options: &Options<'_>) -> bool
-    ensures { result ≡ is_separator_lone (options_of options.now) }
+fn lacks_field(options: &Options<'_>) -> bool
+    ensures { result ≡ lacks_field (options_of options.now) }
 {
     let has_field = options.field.is_some() || options.by.is_some() || options.value.is_some();
     options.separator.is_some() && !has_field
@@ -181,7 +204,7 @@ fn listed_request<'a>(
     ensures { ParsesAs result (listed_action command (options_of options.entry) (words_of files.now)) }
 {
     if options.list.is_some() && !files.is_empty() {
-        return Err(Fault::FilesAndList);
+        return Err(Fault::ListExcludesFiles);
     }
     if is_read_twice(command, &options, files) {
         return Err(Fault::StandardTwice);
@@ -197,23 +220,23 @@ fn grouped_request<'a>(
 ) -> Result<Request<'a>, Fault>
     ensures { ParsesAs result (grouped_action command (options_of options.entry) (words_of files.now)) }
 {
-    if has_lone_groups(command, &options) {
-        return Err(Fault::LoneGroups);
+    if lacks_output(command, &options) {
+        return Err(Fault::GroupsNeedOutput);
     }
     if options.sort.is_some() && options.by.is_none() {
-        return Err(Fault::LoneOrder);
+        return Err(Fault::Needs(OptionName::Sort, OptionName::By));
     }
     if options.groups && !options.hex {
-        return Err(Fault::LoneUnions);
+        return Err(Fault::Needs(OptionName::Groups, OptionName::Hex));
     }
     if options.groups && options.expected.is_some() {
-        return Err(Fault::CountedGroups);
+        return Err(Fault::Excludes(OptionName::Expect, OptionName::Groups));
     }
     if options.folder.is_some() && options.by.is_none() {
-        return Err(Fault::LoneFolder);
+        return Err(Fault::Needs(OptionName::OutputDir, OptionName::By));
     }
     if options.folder.is_some() && options.output.is_some() {
-        return Err(Fault::TwoOutputs);
+        return Err(Fault::Excludes(OptionName::Output, OptionName::OutputDir));
     }
     listed_request(command, options, files)
 }
@@ -227,16 +250,16 @@ fn summed_request<'a>(
     ensures { ParsesAs result (summed_action command (options_of options.entry) (words_of files.now)) }
 {
     if options.sums && options.keys {
-        return Err(Fault::SummedKeys);
+        return Err(Fault::Excludes(OptionName::Sums, OptionName::Keys));
     }
     if options.sums && options.field.is_some() {
-        return Err(Fault::SummedField);
+        return Err(Fault::Excludes(OptionName::Sums, OptionName::Field));
     }
     if options.sums && options.groups {
-        return Err(Fault::SummedGroups);
+        return Err(Fault::Excludes(OptionName::Sums, OptionName::Groups));
     }
     if reads_expression(command) && options.sums && options.bounds.is_some() {
-        return Err(Fault::SummedBounds);
+        return Err(Fault::Excludes(OptionName::Sums, OptionName::Bounds));
     }
     grouped_request(command, options, files)
 }
@@ -250,13 +273,16 @@ fn added_request<'a>(
     ensures { ParsesAs result (added_action command (options_of options.entry) (words_of files.now)) }
 {
     if has_two_amounts(&options) {
-        return Err(Fault::TwoAmounts);
+        return Err(Fault::Excludes(OptionName::Value, OptionName::Visits));
     }
-    if has_plain_sums(command, &options) {
-        return Err(Fault::PlainSums);
+    if groups_sums(command, &options) {
+        return Err(Fault::Excludes(amount_option(&options), OptionName::By));
     }
-    if has_lone_digits(command, &options) {
-        return Err(Fault::LoneDigits);
+    if watches_sums(command, &options) {
+        return Err(Fault::Excludes(amount_option(&options), OptionName::Progress));
+    }
+    if lacks_sums(command, &options) {
+        return Err(Fault::Needs(OptionName::Hex, OptionName::Sums));
     }
     summed_request(command, options, files)
 }
@@ -273,13 +299,13 @@ pub(crate) fn run_request<'a>(
         return Err(Fault::NotOneExpression);
     }
     if reads_expression(command) && options.field.is_some() && !options.keys {
-        return Err(Fault::LoneField);
+        return Err(Fault::Needs(OptionName::Field, OptionName::Keys));
     }
-    if has_lone_sum(command, &options) {
-        return Err(Fault::LoneSum);
+    if lacks_value(command, &options) {
+        return Err(Fault::SumNeedsValue);
     }
-    if is_separator_lone(&options) {
-        return Err(Fault::LoneSeparator);
+    if lacks_field(&options) {
+        return Err(Fault::SeparatorNeedsField);
     }
     added_request(command, options, files)
 }

@@ -1,7 +1,7 @@
 //! Single words of the arguments.
-ghost use Rattle.std.specs.Prelude.{◌≡◌, ◌==◌, slice_index};
+ghost use Rattle.std.specs.Prelude.{◌≡◌, ◌==◌, slice_index, Some};
 ghost use Rattle.std.specs.Option.{option_map};
-ghost use Rattle.distinct_arguments.specs.Words.{command_of, option_called, has_option, is_help, is_version};
+ghost use Rattle.distinct_arguments.specs.Words.{command_of, option_of, has_option, is_help, is_version};
 ghost use Rattle.distinct_arguments.specs.Words.{is_dir, is_option};
 ghost use Rattle.distinct_arguments.specs.Words.{split_option, number_of, byte_of, seed_of, deviations_of, order_of};
 
@@ -71,8 +71,8 @@ pub(crate) fn split_option(word: &str) -> (&str, Option<&str>)
 }
 
 /// The option of a name, such as `--lg-k`.
-pub fn option_called(name: &str) -> Option<OptionName>
-    ensures { result ≡ option_called name.now }
+pub fn option_of(name: &str) -> Option<OptionName>
+    ensures { result ≡ option_of name.now }
 {
     match name {
         "--lg-k" => Some(OptionName::LgK),
@@ -98,6 +98,36 @@ pub fn option_called(name: &str) -> Option<OptionName>
         "--keys" => Some(OptionName::Keys),
         "-C" => Some(OptionName::Dir),
         _ => None,
+    }
+}
+
+/// The name of an option, such as `--lg-k`.
+pub(crate) fn name_of(option: OptionName) -> &'static str
+    ensures { option_of result.now ≡ Some option }
+{
+    match option {
+        OptionName::LgK => "--lg-k",
+        OptionName::Field => "--field",
+        OptionName::Separator => "--separator",
+        OptionName::By => "--by",
+        OptionName::Sort => "--sort",
+        OptionName::Value => "--value",
+        OptionName::Visits => "--visits",
+        OptionName::Groups => "--groups",
+        OptionName::Sums => "--sums",
+        OptionName::Seed => "--seed",
+        OptionName::SeedFile => "--seed-file",
+        OptionName::FileList => "--files0-from",
+        OptionName::Expect => "--expect",
+        OptionName::Progress => "--progress",
+        OptionName::Bounds => "--bounds",
+        OptionName::Tsv => "--tsv",
+        OptionName::Json => "--json",
+        OptionName::Hex => "--hex",
+        OptionName::Output => "--output",
+        OptionName::OutputDir => "--output-dir",
+        OptionName::Keys => "--keys",
+        OptionName::Dir => "-C",
     }
 }
 

@@ -23,7 +23,7 @@ use Rattle.distinct_commands.specs.Visits.{visits_text, IsVisitsOfImages}
 use Rattle.keys_groups.specs.Groups.{AreGroups}
 use Rattle.distinct_inputs.specs.Images.{in_form}
 use Rattle.distinct_arguments.specs.Settings.{OptionValues, chosen_value}
-use Rattle.distinct_arguments.specs.declared.fault.Fault.TheVariants.{LoneSum}
+use Rattle.distinct_arguments.specs.declared.fault.Fault.TheVariants.{SumNeedsValue}
 use Rattle.distinct_inputs.specs.Failures.{IsOfSums, IsOfTotal, IsOfTotalOf}
 use Rattle.distinct_inputs.specs.declared.failure.Failure.{Failure}
 use Rattle.distinct_inputs.specs.declared.failure.Failure.TheVariants.{Arguments}
@@ -93,9 +93,9 @@ unmapped f None is = refl
 unmapped f (Some x) is = absurd (cc)
 
 -- no field has the numbers
-pub lone_sum : (options : OptionValues) (seed : ℕ) (texts : Option (List (List ℕ))) (value : Option Key) → value ≡ chosen_value options → ((field : Key) → value ≡ Some field → ⊥) → IsOfTotal options seed texts (Arguments LoneSum)
-lone_sum options seed texts None is none = subst (λ (value : Option Key). IsOfTotalOf value options seed texts (Arguments LoneSum)) is (unmapped _ options.value (sym is))
-lone_sum options seed texts (Some field) is none = absurd (none field refl)
+pub lacks_value : (options : OptionValues) (seed : ℕ) (texts : Option (List (List ℕ))) (value : Option Key) → value ≡ chosen_value options → ((field : Key) → value ≡ Some field → ⊥) → IsOfTotal options seed texts (Arguments SumNeedsValue)
+lacks_value options seed texts None is none = subst (λ (value : Option Key). IsOfTotalOf value options seed texts (Arguments SumNeedsValue)) is (unmapped _ options.value (sym is))
+lacks_value options seed texts (Some field) is none = absurd (none field refl)
 
 -- lines are not summed by the field that has them
 pub not_summed : (options : OptionValues) (seed : ℕ) (texts : Option (List (List ℕ))) (field : Key) (f : Failure) → chosen_value options ≡ Some field → IsOfSums options seed (Number field) texts f → IsOfTotal options seed texts f

@@ -157,7 +157,7 @@ impl<'a, S: Sources + Drop> Job<'a, S> {
     {
         let (alloc, options) = (self.alloc, self.options);
         let Some(field) = options.value() else {
-            return Err(Failure::Arguments(Fault::LoneSum));
+            return Err(Failure::Arguments(Fault::SumNeedsValue));
         };
         let sums = self.sums_of(Amount::Number(field))?;
         let text = total_text(alloc, options.form, &sums)?;

@@ -17,7 +17,7 @@ use Rattle.keys_sums.specs.Refusals.{HasNoNumberAt, IsPast}
 use Rattle.keys_sums.specs.declared.addends.Amount.{Amount}
 use Rattle.keys_sums.specs.declared.addends.Amount.TheVariants.{One, Number}
 use Rattle.distinct_arguments.specs.Faults.{fault_status}
-use Rattle.distinct_arguments.specs.declared.fault.Fault.TheVariants.{LoneSum, ZeroSeed}
+use Rattle.distinct_arguments.specs.declared.fault.Fault.TheVariants.{SumNeedsValue, ZeroSeed}
 use Rattle.distinct_arguments.specs.Settings.{chosen_key, chosen_value}
 use Rattle.std.specs.declared.io.Error.{Error}
 use Rattle.distinct_arguments.specs.Settings.{OptionValues, SeedValue, seed_number, seed_file}
@@ -158,13 +158,13 @@ abbrev pub IsOfSketch : OptionValues → (seed : ℕ) → (texts : Option (List 
 IsOfSketch options seed texts failure = IsOfChosen (chosen_amount options) options seed texts failure
 
 -- no field has the numbers of lines
-abbrev pub IsLone : OptionValues → Failure → Type 0
-IsLone options (Arguments LoneSum) = options.value ≡ None
-IsLone options failure = ⊥
+abbrev pub LacksValue : OptionValues → Failure → Type 0
+LacksValue options (Arguments SumNeedsValue) = options.value ≡ None
+LacksValue options failure = ⊥
 
 -- .. or lines are not summed by the field that has their numbers
 abbrev pub IsOfTotalOf : (value : Option Key) → OptionValues → (seed : ℕ) → (texts : Option (List (List ℕ))) → Failure → Type 0
-IsOfTotalOf None options seed texts failure = IsLone options failure
+IsOfTotalOf None options seed texts failure = LacksValue options failure
 IsOfTotalOf (Some field) options seed texts failure = IsOfSums options seed (Number field) texts failure
 
 abbrev pub IsOfTotal : OptionValues → (seed : ℕ) → (texts : Option (List (List ℕ))) → Failure → Type 0

@@ -3,12 +3,12 @@ use Rattle.std.specs.Prelude.{IfErr}
 use Rattle.std.proofs.lemmas.Result.{err_from_is_err_and}
 use Rattle.distinct_arguments.specs.Faults.{options_of}
 use Rattle.distinct_inputs.specs.Failures.{IsOfTotal}
-use Rattle.distinct_commands.proofs.Answered.{lone_sum, not_summed}
+use Rattle.distinct_commands.proofs.Answered.{lacks_value, not_summed}
 use Rattle.distinct_commands.proofs.job.Job.sum_inputs.Goals as goal
 
 pub returns-in_default-clause-failed : goal.returns-in_default-clause-failed
 returns-in_default-clause-failed g c =
-    lone_sum (options_of c.args.self.options.now) c.args.self.seed (g.S.Sources.texts c.args.self.inputs.sources) c.value.result c.value.ensures c.in_default.not-Some
+    lacks_value (options_of c.args.self.options.now) c.args.self.seed (g.S.Sources.texts c.args.self.inputs.sources) c.value.result c.value.ensures c.in_default.not-Some
 
 pub returns-in_err-sums-clause-failed : goal.returns-in_err-sums-clause-failed
 returns-in_err-sums-clause-failed g c =
