@@ -83,7 +83,7 @@ impl<T: CanCopy> Owned<T> {
         ensures unchanged { self.new.value ≡ self.old.value }
     {
         match self.get() {
-            Some(object) => out.put_or(alloc, object.copied()),
+            Some(object) => out.put_or(alloc, object.copy()),
             None => INVALID_ARGUMENT,
         }
     }

@@ -5,7 +5,7 @@ ghost use Rattle.c_objects.specs.Images.{WritesIntersection, WritesDifference};
 ghost use Rattle.c_objects.specs.Thetas.{ReadsImageState};
 
 use c_objects::compact::CompactSketch;
-use c_objects::images::{intersected, put_image, read_both};
+use c_objects::images::{intersection_of, put_image, read_both};
 use c_objects::objects::{FromImage, HasDifference, HasState};
 use c_objects::state::State;
 use c_objects::status::{OK, OUT_OF_MEMORY};
@@ -41,7 +41,7 @@ pub extern "C" fn kcp_images_intersect(
     ensures { WritesIntersection seed first.now second.now out.old length.old result out.new length.new }
 {
     match read_both(alloc, first, second, seed) {
-        Ok((a, b)) => match intersected(alloc, seed, &a, &b) {
+        Ok((a, b)) => match intersection_of(alloc, seed, &a, &b) {
             Ok(sketch) => put_image(&sketch, out, length),
             Err(_) => OUT_OF_MEMORY,
         },

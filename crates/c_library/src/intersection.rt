@@ -6,7 +6,7 @@ ghost use Rattle.c_objects.specs.Intersection.{IsNoResult};
 ghost use Rattle.c_objects.specs.Thetas.{OfSketch, OfCompact, OfImage};
 
 use c_handles::handles::{CompactHandle, IntersectionHandle, ThetaHandle};
-use c_objects::intersection::built;
+use c_objects::intersection::build;
 use std::alloc::Global;
 
 /// Makes an intersection, which has no value before its first sketch. Refused with `INVALID_ARGUMENT` if the hash of
@@ -19,7 +19,7 @@ pub extern "C" fn kcp_intersection_new(
 ) -> u32
     ensures { Fills (IsNewIntersection seed) (IsSeedRefusal seed) intersection.old.value result intersection.new.value }
 {
-    intersection.owned().put(alloc, built(alloc, seed))
+    intersection.owned().put(alloc, build(alloc, seed))
 }
 
 /// Frees the intersection of a handle, if it has one.

@@ -14,7 +14,7 @@ use c_objects::bounds::Wide;
 use c_objects::settings::factor_of;
 use c_objects::state::State;
 use c_objects::status::INVALID_ARGUMENT;
-use c_objects::sums::{add_at_bytes, add_at_hash, add_at_number, built};
+use c_objects::sums::{add_at_bytes, add_at_hash, add_at_number, build};
 use std::alloc::Global;
 use tuple_sketches::{MAX_THETA, ResizeFactor};
 
@@ -23,7 +23,7 @@ use tuple_sketches::{MAX_THETA, ResizeFactor};
 pub extern "C" fn kcp_sums_new(alloc: Global, sums: &mut SumsHandle, lg_k: u8, seed: u64) -> u32
     ensures { Fills (IsNewSums lg_k MAX_THETA seed) (IsSettingsRefusal lg_k seed) sums.old.value result sums.new.value }
 {
-    sums.owned().put(alloc, built(alloc, lg_k, ResizeFactor::X8, MAX_THETA, seed))
+    sums.owned().put(alloc, build(alloc, lg_k, ResizeFactor::X8, MAX_THETA, seed))
 }
 
 /// Makes a sketch with a resize factor and a starting theta, as `kcp_theta_new_with` does.
@@ -42,7 +42,7 @@ pub extern "C" fn kcp_sums_new_with(
     match factor_of(resize_factor) {
         Some(factor) => sums
             .owned()
-            .put(alloc, built(alloc, lg_k, factor, starting_theta, seed)),
+            .put(alloc, build(alloc, lg_k, factor, starting_theta, seed)),
         None => INVALID_ARGUMENT,
     }
 }

@@ -7,7 +7,7 @@ ghost use Rattle.c_objects.specs.SumsIntersection.{IsNewSumsIntersection, MeetsS
 ghost use Rattle.c_objects.specs.SumsIntersection.{IsNoSumsResult};
 
 use c_handles::handles::{CompactSumsHandle, SumsHandle, SumsIntersectionHandle};
-use c_objects::sums_intersection::built;
+use c_objects::sums_intersection::build;
 use std::alloc::Global;
 
 /// Makes an intersection, refused as `kcp_intersection_new` is. Its value is that of an intersection of theta
@@ -21,7 +21,7 @@ pub extern "C" fn kcp_sums_intersection_new(
     ensures { Fills (IsNewSumsIntersection seed) (IsSeedRefusal seed) intersection.old.value result
         intersection.new.value }
 {
-    intersection.owned().put(alloc, built(alloc, seed))
+    intersection.owned().put(alloc, build(alloc, seed))
 }
 
 /// Frees the intersection of a handle, if it has one.

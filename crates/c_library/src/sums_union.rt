@@ -8,7 +8,7 @@ ghost use Rattle.c_objects.specs.SumsUnion.{IsNewSumsUnion, AddsShownSums, IsSum
 ghost use Rattle.c_objects.specs.SumsUnion.{IsSumsResultRefusal, ResetsSumsUnion};
 
 use c_handles::handles::{CompactSumsHandle, SumsHandle, SumsUnionHandle};
-use c_objects::sums_union::built;
+use c_objects::sums_union::build;
 use std::alloc::Global;
 
 /// Makes a union of 2^`lg_k` nominal entries, refused as `kcp_theta_new` is. Its value is that of a union of theta
@@ -22,7 +22,7 @@ pub extern "C" fn kcp_sums_union_new(
 ) -> u32
     ensures { Fills (IsNewSumsUnion lg_k seed) (IsSettingsRefusal lg_k seed) union.old.value result union.new.value }
 {
-    union.owned().put(alloc, built(alloc, lg_k, seed))
+    union.owned().put(alloc, build(alloc, lg_k, seed))
 }
 
 /// Frees the union of a handle, if it has one.

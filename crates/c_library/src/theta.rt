@@ -13,7 +13,7 @@ use c_handles::handles::{CompactHandle, ThetaHandle};
 use c_objects::settings::factor_of;
 use c_objects::state::State;
 use c_objects::status::INVALID_ARGUMENT;
-use c_objects::theta::{built, update_bytes, update_hash, update_hashes, update_number};
+use c_objects::theta::{build, update_bytes, update_hash, update_hashes, update_number};
 use std::alloc::Global;
 use theta_sketches::{MAX_THETA, ResizeFactor};
 
@@ -26,7 +26,7 @@ pub extern "C" fn kcp_theta_new(alloc: Global, sketch: &mut ThetaHandle, lg_k: u
     ensures { Fills (IsNewSketch lg_k MAX_THETA seed) (IsSettingsRefusal lg_k seed) sketch.old.value result
         sketch.new.value }
 {
-    sketch.owned().put(alloc, built(alloc, lg_k, ResizeFactor::X8, MAX_THETA, seed))
+    sketch.owned().put(alloc, build(alloc, lg_k, ResizeFactor::X8, MAX_THETA, seed))
 }
 
 /// Makes a sketch whose slots grow by a resize factor, 1, 2, 4 or 8 (`kcp_theta_new` takes 8), and that begins at a
@@ -49,7 +49,7 @@ pub extern "C" fn kcp_theta_new_with(
     match factor_of(resize_factor) {
         Some(factor) => sketch
             .owned()
-            .put(alloc, built(alloc, lg_k, factor, starting_theta, seed)),
+            .put(alloc, build(alloc, lg_k, factor, starting_theta, seed)),
         None => INVALID_ARGUMENT,
     }
 }

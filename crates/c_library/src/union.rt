@@ -8,7 +8,7 @@ ghost use Rattle.c_objects.specs.Union.{IsNewUnion, AddsShown, AddsUpdatable, Is
 ghost use Rattle.c_objects.specs.Union.{IsResultRefusal, ResetsUnion};
 
 use c_handles::handles::{CompactHandle, ThetaHandle, UnionHandle};
-use c_objects::union::built;
+use c_objects::union::build;
 use std::alloc::Global;
 
 /// Makes a union of 2^`lg_k` nominal entries. Its value has the hashes of all its sketches below their least theta;
@@ -19,7 +19,7 @@ use std::alloc::Global;
 pub extern "C" fn kcp_union_new(alloc: Global, union: &mut UnionHandle, lg_k: u8, seed: u64) -> u32
     ensures { Fills (IsNewUnion lg_k seed) (IsSettingsRefusal lg_k seed) union.old.value result union.new.value }
 {
-    union.owned().put(alloc, built(alloc, lg_k, seed))
+    union.owned().put(alloc, build(alloc, lg_k, seed))
 }
 
 /// Frees the union of a handle, if it has one.

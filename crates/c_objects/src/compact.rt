@@ -57,7 +57,7 @@ impl HasImage for CompactSketch {
 impl CanCopy for CompactSketch {
     ghost is_copy = { IsCopy };
 
-    fn copied(&self) -> Result<CompactSketch, u32> {
+    fn copy(&self) -> Result<CompactSketch, u32> {
         match self.sketch.clone() {
             Ok(sketch) => Ok(CompactSketch { sketch }),
             Err(_) => Err(OUT_OF_MEMORY),

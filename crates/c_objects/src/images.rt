@@ -35,7 +35,7 @@ pub fn read_both(
 
 /// The hashes that two sketches have in common. Refused with `InvalidArgument` only for a seed whose seed hash is 0
 /// or a sketch of another seed that isn't empty, and with `OutOfMemory`.
-pub fn intersected(
+pub fn intersection_of(
     alloc: Global,
     seed: u64,
     first: &CompactSketch,

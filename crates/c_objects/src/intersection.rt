@@ -24,7 +24,7 @@ pub struct SeededIntersection {
 
 /// A new intersection, without a value. Refused with `InvalidArgument` if the hash of the seed is 0, and with
 /// `OutOfMemory`.
-pub fn built(alloc: Global, seed: u64) -> Result<SeededIntersection, Error>
+pub fn build(alloc: Global, seed: u64) -> Result<SeededIntersection, Error>
     ensures made { IfOk result (λ i. IsNewIntersection seed i) }
     ensures refused { Refuses result (seed_refusal seed) true }
 {

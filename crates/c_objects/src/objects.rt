@@ -74,7 +74,7 @@ pub trait CanCopy: Drop {
     ghost is_copy: { Self → Self → Type 0 };
 
     /// A copy of the object, or status 3 if memory was refused.
-    fn copied(&self) -> Result<Self, u32>
+    fn copy(&self) -> Result<Self, u32>
         ensures copied { IfOk result (is_copy self.now) }
         ensures refused { IfErr result (λ status. status ≡ 3) };
 }

@@ -28,7 +28,7 @@ pub struct SeededSums {
 /// A new sketch of 2^`lg_k` nominal entries, `lg_k` from 4 to 26, whose slots grow by a resize factor and which
 /// begins at a theta from 1 to `MAX_THETA`. Refused with `InvalidArgument` if a setting is out of range or the hash
 /// of the seed is 0, and with `OutOfMemory`.
-pub fn built(
+pub fn build(
     alloc: Global,
     lg_k: u8,
     factor: ResizeFactor,
@@ -128,7 +128,7 @@ impl HasImage for SeededSums {
 impl CanCopy for SeededSums {
     ghost is_copy = { IsSameSums };
 
-    fn copied(&self) -> Result<SeededSums, u32> {
+    fn copy(&self) -> Result<SeededSums, u32> {
         match self.sketch.clone() {
             Ok(sketch) => Ok(SeededSums {
                 sketch,

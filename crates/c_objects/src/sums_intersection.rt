@@ -26,7 +26,7 @@ pub struct SeededSumsIntersection {
 
 /// A new intersection, without a value. Refused with `InvalidArgument` if the hash of the seed is 0, and with
 /// `OutOfMemory`.
-pub fn built(alloc: Global, seed: u64) -> Result<SeededSumsIntersection, Error>
+pub fn build(alloc: Global, seed: u64) -> Result<SeededSumsIntersection, Error>
     ensures made { IfOk result (λ i. IsNewSumsIntersection seed i) }
     ensures refused { Refuses result (seed_refusal seed) true }
 {

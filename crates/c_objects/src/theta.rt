@@ -26,7 +26,7 @@ pub struct SeededSketch {
 /// A new sketch of 2^`lg_k` nominal entries, `lg_k` from 4 to 26, whose slots grow by a resize factor and which
 /// begins at a theta from 1 to `MAX_THETA`. Refused with `InvalidArgument` if a setting is out of range or the hash
 /// of the seed is 0, and with `OutOfMemory`.
-pub fn built(
+pub fn build(
     alloc: Global,
     lg_k: u8,
     factor: ResizeFactor,
@@ -126,7 +126,7 @@ impl HasImage for SeededSketch {
 impl CanCopy for SeededSketch {
     ghost is_copy = { IsSameSketch };
 
-    fn copied(&self) -> Result<SeededSketch, u32> {
+    fn copy(&self) -> Result<SeededSketch, u32> {
         match self.sketch.clone() {
             Ok(sketch) => Ok(SeededSketch {
                 sketch,

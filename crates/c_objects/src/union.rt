@@ -28,7 +28,7 @@ pub struct SeededUnion {
 
 /// A new union of 2^`lg_k` nominal entries, `lg_k` from 4 to 26. Refused with `InvalidArgument` if `lg_k` is out of
 /// range or the hash of the seed is 0, and with `OutOfMemory`.
-pub fn built(alloc: Global, lg_k: u8, seed: u64) -> Result<SeededUnion, Error>
+pub fn build(alloc: Global, lg_k: u8, seed: u64) -> Result<SeededUnion, Error>
     ensures made { IfOk result (λ u. IsNewUnion lg_k seed u) }
     ensures refused { Refuses result (settings_refusal lg_k MAX_THETA seed) true }
 {

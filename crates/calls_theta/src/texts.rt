@@ -19,7 +19,7 @@ pub struct Texts {
 struct NoWatch;
 
 impl Watch for NoWatch {
-    fn saw<A: Allocator>(&mut self, _bytes: usize, _lines: u64, _sketch: &ThetaSketch<A>) {}
+    fn on_read<A: Allocator>(&mut self, _bytes: usize, _lines: u64, _sketch: &ThetaSketch<A>) {}
 }
 
 /// The bytes of a text: `_` is the end of a line, and `-` alone is an empty text.

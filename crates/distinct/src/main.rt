@@ -70,7 +70,7 @@ fn words_behind_dirs(words: &[String]) -> &[String] {
 const LONGEST_NAME: usize = 4096;
 
 /// The failure for the first argument that is not UTF-8 text.
-fn not_text(rt: &HostRuntime) -> Failure {
+fn text_failure(rt: &HostRuntime) -> Failure {
     let mut bytes = [0u8; LONGEST_NAME];
     for number in 1..u32::MAX as usize {
         let Ok(length) = rt.arg(number, &mut bytes) else {
@@ -118,7 +118,7 @@ fn enter_dirs(rt: &HostRuntime, words: &[String], options: &Options<'_>) -> Resu
 
 fn run(rt: &HostRuntime) -> Result<(), Failure> {
     let Ok(args) = env::args(rt) else {
-        return Err(not_text(rt));
+        return Err(text_failure(rt));
     };
     let words: Vec<String> = args.skip(1).collect(rt.alloc())?;
     let request = read_arguments(words.as_slice())?;

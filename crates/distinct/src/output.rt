@@ -2,7 +2,7 @@
 ghost use Rattle.std.specs.Prelude.{IfErr};
 ghost use Rattle.distinct_inputs.specs.Failures.{IsOfWriting};
 
-use distinct_inputs::{Failure, not_written};
+use distinct_inputs::{Failure, write_failure};
 use keys_groups::GroupFile;
 use std::alloc::Global;
 use std::fs::{File, Files};
@@ -15,7 +15,7 @@ pub fn put_file(rt: &HostRuntime, name: &str, bytes: &[u8]) -> Result<(), Failur
 {
     match write_file(rt, name, bytes) {
         Ok(()) => Ok(()),
-        Err(error) => Err(not_written(rt.alloc(), name, error)),
+        Err(error) => Err(write_failure(rt.alloc(), name, error)),
     }
 }
 
@@ -31,11 +31,11 @@ pub fn put_files(rt: &HostRuntime, folder: &str, files: &[GroupFile]) -> Result<
         if LONGEST_FILE < file.name.len() {
             let path = path_of(alloc, folder, file)?;
             let error = io::Error::from(ErrorKind::InvalidFilename);
-            return Err(not_written(alloc, path.as_str(), error));
+            return Err(write_failure(alloc, path.as_str(), error));
         }
     }
     if let Err(error) = fs::create_dir_all(rt, folder) {
-        return Err(not_written(alloc, folder, error));
+        return Err(write_failure(alloc, folder, error));
     }
     for file in files {
         let path = path_of(alloc, folder, file)?;

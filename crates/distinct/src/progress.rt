@@ -55,7 +55,7 @@ impl<'a> Progress<'a> {
 }
 
 impl<'a> Watch for Progress<'a> {
-    fn saw<A: Allocator>(&mut self, bytes: usize, lines: u64, sketch: &ThetaSketch<A>) {
+    fn on_read<A: Allocator>(&mut self, bytes: usize, lines: u64, sketch: &ThetaSketch<A>) {
         if !self.enabled {
             return;
         }
@@ -73,7 +73,7 @@ impl<'a> Watch for Progress<'a> {
 }
 
 impl<'a> GroupWatch for Progress<'a> {
-    fn saw_line(&mut self, bytes: usize, groups: usize) {
+    fn on_line(&mut self, bytes: usize, groups: usize) {
         if !self.enabled {
             return;
         }

@@ -2,15 +2,15 @@
 use Rattle.std.proofs.Common.{◌≡◌, ℕ, Bool, false, List, Option, sym, subst}
 use Rattle.std.specs.Prelude.{IfErr, IfSome, Result, Ok, Err}
 use Rattle.sketch_base.specs.declared.error.ErrorKind.{ErrorKind}
-use Rattle.keys_groups.specs.United.{HasFirstFlawed, IsUnunited}
+use Rattle.keys_groups.specs.United.{HasFirstFlawed, IsUniteError}
 use Rattle.keys_groups.specs.declared.united.LineFlaw.{LineFlaw}
-use Rattle.keys_groups.specs.declared.uniting.Ununited.{Ununited}
-use Rattle.keys_groups.specs.declared.uniting.Ununited.TheVariants.{Flawed}
+use Rattle.keys_groups.specs.declared.uniting.UniteError.{UniteError}
+use Rattle.keys_groups.specs.declared.uniting.UniteError.TheVariants.{Flawed}
 use Rattle.distinct_arguments.specs.Settings.{OptionValues}
 use Rattle.distinct_arguments.specs.declared.commands.Operator.{Operator}
 use Rattle.distinct_arguments.specs.declared.commands.Operator.TheVariants.{Union}
 use Rattle.distinct_inputs.specs.Failures.{images_in, unites_sums, IsOfImages, IsOfEitherUnion, IsOfCombining}
-use Rattle.distinct_commands.specs.Failing.{OrUnnamed}
+use Rattle.distinct_commands.specs.Failing.{OrNoFiles}
 use Rattle.distinct_inputs.specs.declared.failure.Failure.{Failure}
 use Rattle.distinct_inputs.specs.declared.failure.Failure.TheVariants.{NotText, Arguments, NoFiles, NotTwo, NoExpression, NoDir, NoName, NoNul, NoSeed, Terminal, WrongCount, NotOneEach, Memory, Unreadable, NoSketch, NoSums, NoHex, NoTab, NoLine, PastGreatest, PastUnion, PastResult, NotANumber, NotWritten}
 
@@ -79,32 +79,32 @@ not_united (Ok v) operator options seed count texts is failed = tt
 not_united (Err f) operator options seed count texts is failed = subst (λ (o : Operator). IsOfCombining o options seed count texts f) (sym is) (union_combining options seed count texts f failed)
 
 -- a command to which an image is named
-named : (IsUnnamed : Type 0) (IsOther : Failure → Type 0) (f : Failure) → (IsOther NoFiles → ⊥) → IsOther f → OrUnnamed IsUnnamed IsOther f
-named IsUnnamed IsOther (NotText number text) never failed = failed
-named IsUnnamed IsOther (Arguments fault) never failed = failed
-named IsUnnamed IsOther NoFiles never failed = absurd (never failed)
-named IsUnnamed IsOther NotTwo never failed = failed
-named IsUnnamed IsOther (NoExpression text fault) never failed = failed
-named IsUnnamed IsOther Terminal never failed = failed
-named IsUnnamed IsOther (WrongCount found expected) never failed = failed
-named IsUnnamed IsOther (NotOneEach found expected) never failed = failed
-named IsUnnamed IsOther (NoDir name error) never failed = failed
-named IsUnnamed IsOther (NoSeed name) never failed = failed
-named IsUnnamed IsOther (NoName name number) never failed = failed
-named IsUnnamed IsOther (NoNul name) never failed = failed
-named IsUnnamed IsOther Memory never failed = failed
-named IsUnnamed IsOther (Unreadable name error) never failed = failed
-named IsUnnamed IsOther (NoSketch name line flaw) never failed = failed
-named IsUnnamed IsOther (NoSums name line flaw) never failed = failed
-named IsUnnamed IsOther (NoHex name line) never failed = failed
-named IsUnnamed IsOther (NoTab name line) never failed = failed
-named IsUnnamed IsOther (NoLine name) never failed = failed
-named IsUnnamed IsOther (PastGreatest name line) never failed = failed
-named IsUnnamed IsOther (PastUnion name line) never failed = failed
-named IsUnnamed IsOther (PastResult text) never failed = failed
-named IsUnnamed IsOther (NotANumber name line) never failed = failed
-named IsUnnamed IsOther (NotWritten name error) never failed = failed
+named : (IsNameError : Type 0) (IsOther : Failure → Type 0) (f : Failure) → (IsOther NoFiles → ⊥) → IsOther f → OrNoFiles IsNameError IsOther f
+named IsNameError IsOther (NotText number text) never failed = failed
+named IsNameError IsOther (Arguments fault) never failed = failed
+named IsNameError IsOther NoFiles never failed = absurd (never failed)
+named IsNameError IsOther NotTwo never failed = failed
+named IsNameError IsOther (NoExpression text fault) never failed = failed
+named IsNameError IsOther Terminal never failed = failed
+named IsNameError IsOther (WrongCount found expected) never failed = failed
+named IsNameError IsOther (NotOneEach found expected) never failed = failed
+named IsNameError IsOther (NoDir name error) never failed = failed
+named IsNameError IsOther (NoSeed name) never failed = failed
+named IsNameError IsOther (NoName name number) never failed = failed
+named IsNameError IsOther (NoNul name) never failed = failed
+named IsNameError IsOther Memory never failed = failed
+named IsNameError IsOther (Unreadable name error) never failed = failed
+named IsNameError IsOther (NoSketch name line flaw) never failed = failed
+named IsNameError IsOther (NoSums name line flaw) never failed = failed
+named IsNameError IsOther (NoHex name line) never failed = failed
+named IsNameError IsOther (NoTab name line) never failed = failed
+named IsNameError IsOther (NoLine name) never failed = failed
+named IsNameError IsOther (PastGreatest name line) never failed = failed
+named IsNameError IsOther (PastUnion name line) never failed = failed
+named IsNameError IsOther (PastResult text) never failed = failed
+named IsNameError IsOther (NotANumber name line) never failed = failed
+named IsNameError IsOther (NotWritten name error) never failed = failed
 
 -- the first flaw of a line
-pub first_flaw : (seed : ℕ) (refusal : Option ErrorKind) (texts : Option (List (List ℕ))) (u : Ununited) (number : ℕ) (flaw : LineFlaw) → u ≡ Flawed number flaw → IsUnunited seed refusal texts u → IfSome texts (HasFirstFlawed seed number flaw)
-first_flaw seed refusal texts u number flaw is failed = (subst (IsUnunited seed refusal texts) is failed).1
+pub first_flaw : (seed : ℕ) (refusal : Option ErrorKind) (texts : Option (List (List ℕ))) (u : UniteError) (number : ℕ) (flaw : LineFlaw) → u ≡ Flawed number flaw → IsUniteError seed refusal texts u → IfSome texts (HasFirstFlawed seed number flaw)
+first_flaw seed refusal texts u number flaw is failed = (subst (IsUniteError seed refusal texts) is failed).1

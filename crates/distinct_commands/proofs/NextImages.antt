@@ -11,11 +11,11 @@ use Rattle.keys_sketches.specs.Sources.{Continues, GivesNext}
 use Rattle.keys_sketches.proofs.Refused.{faulty_next}
 use Rattle.keys_sketches.specs.Shards.{AreRead}
 use Rattle.distinct_commands.specs.Answers.{AreShownByName, AreShown, IsExpected, IsIntersectionImage, intersection_of}
-use Rattle.distinct_inputs.specs.Failures.{called, AreCounted, IsOfImages}
+use Rattle.distinct_inputs.specs.Failures.{display_name, AreCounted, IsOfImages}
 use Rattle.distinct_inputs.specs.declared.failure.Failure.{Failure}
 use Rattle.distinct_inputs.specs.declared.failure.Failure.TheVariants.{NotText, Arguments, NoFiles, NotTwo, NoExpression, NoDir, NoName, NoNul, NoSeed, Terminal, WrongCount, NotOneEach, Memory, Unreadable, NoSketch, NoSums, NoHex, NoTab, NoLine, PastGreatest, PastUnion, PastResult, NotANumber, NotWritten}
 use Rattle.distinct_inputs.specs.declared.images.Images.{Images}
-use Rattle.distinct_inputs.specs.Images.{alone, images_of, parts_left, remaining_images, open_text, HasNoSketch, IsNoSketch, ReadsFirst, ReadsNext}
+use Rattle.distinct_inputs.specs.Images.{only_image, images_of, parts_left, remaining_images, open_text, HasNoSketch, IsNoSketch, ReadsFirst, ReadsNext}
 use Rattle.distinct_commands.specs.Texts.{shown_text}
 use Rattle.distinct_arguments.specs.Settings.{OptionValues}
 
@@ -58,14 +58,14 @@ module _ (options : OptionValues) (seed : ℕ) where
   shows_itself (Some all) names = λ rest is. is
 
   one_shown : (all names : List (List ℕ)) (shown : List ℕ) (images : List (List ℕ)) (name : List ℕ) (others : List (List ℕ)) (s : Compact ℕ) (new : Option (List (List ℕ))) →
-      ((rest : List ℕ) → AreShownByName options seed (name ∷ others) images rest → AreShownByName options seed names all (shown ++ rest)) → ReadsFirst seed images s new → ShowsOn (Some all) names (shown ++ shown_text options (called name) s) new others
+      ((rest : List ℕ) → AreShownByName options seed (name ∷ others) images rest → AreShownByName options seed names all (shown ++ rest)) → ReadsFirst seed images s new → ShowsOn (Some all) names (shown ++ shown_text options (display_name name) s) new others
   one_shown all names shown images name others s new so_far first =
-      subst (λ (o : Option (List (List ℕ))). ShowsOn (Some all) names (shown ++ shown_text options (called name) s) o others) (sym first.leaves) (λ rest is.
-      subst (AreShownByName options seed names all) (sym (append_assoc shown (shown_text options (called name) s) rest))
-      (so_far (shown_text options (called name) s ++ rest) (subst (λ (l : List (List ℕ)). AreShownByName options seed (name ∷ others) l (shown_text options (called name) s ++ rest)) (sym first.parted) (s, rest, first.reads, refl, is))))
+      subst (λ (o : Option (List (List ℕ))). ShowsOn (Some all) names (shown ++ shown_text options (display_name name) s) o others) (sym first.leaves) (λ rest is.
+      subst (AreShownByName options seed names all) (sym (append_assoc shown (shown_text options (display_name name) s) rest))
+      (so_far (shown_text options (display_name name) s ++ rest) (subst (λ (l : List (List ℕ)). AreShownByName options seed (name ∷ others) l (shown_text options (display_name name) s ++ rest)) (sym first.parted) (s, rest, first.reads, refl, is))))
 
   pub shows_more : (old : Option (List (List ℕ))) (names : List (List ℕ)) (shown : List ℕ) (now : Option (List (List ℕ))) (left : List (List ℕ)) (name : List ℕ) (others : List (List ℕ)) (o : Option (Compact ℕ)) (s : Compact ℕ) (new : Option (List (List ℕ))) →
-      ShowsOn old names shown now left → left ≡ name ∷ others → ReadsNext seed now new o → o ≡ Some s → ShowsOn old names (shown ++ shown_text options (called name) s) new others
+      ShowsOn old names shown now left → left ≡ name ∷ others → ReadsNext seed now new o → o ≡ Some s → ShowsOn old names (shown ++ shown_text options (display_name name) s) new others
   shows_more None names shown now left name others o s new so_far parted next is = tt
   shows_more (Some all) names shown None left name others o s new so_far parted next is = absurd so_far
   shows_more (Some all) names shown (Some images) left name others o s new so_far parted next is =
@@ -163,7 +163,7 @@ of_made : {T U : Type 0} (f : T → U) (o : Option T) (P : U → Type 0) → IfS
 of_made f None P holds = tt
 of_made f (Some t) P holds = holds
 
-images_closed : (sums hex : Bool) (line : ℕ) (texts : Option (List (List ℕ))) → option_map (map (alone sums)) (parts_left hex None line texts) ≡ option_map (images_of sums hex) texts
+images_closed : (sums hex : Bool) (line : ℕ) (texts : Option (List (List ℕ))) → option_map (map (only_image sums)) (parts_left hex None line texts) ≡ option_map (images_of sums hex) texts
 images_closed sums true line None = refl
 images_closed sums true line (Some texts) = refl
 images_closed sums false line None = refl
@@ -174,7 +174,7 @@ pub all_images : {S R : Type 0} (remaining : R → Option (List ℕ)) (known : S
     remaining_images remaining known images ≡ option_map (images_of sums hex) (known images.inputs.sources)
 all_images remaining known images sums hex sums_is hex_is closed =
     let texts = known images.inputs.sources in
-    ap (λ reader. option_map (map (alone images.sums)) (parts_left images.hex (open_text remaining reader) images.line texts)) closed
+    ap (λ reader. option_map (map (only_image images.sums)) (parts_left images.hex (open_text remaining reader) images.line texts)) closed
     ∙ images_closed images.sums images.hex images.line texts
     ∙ ap (λ (b : Bool). option_map (images_of b images.hex) texts) sums_is
     ∙ ap (λ (b : Bool). option_map (images_of sums b) texts) hex_is

@@ -13,11 +13,11 @@ use Rattle.core_laws.specs.declared.TheConstants.{MAX_THETA}
 use Rattle.core_operators.specs.Intersection.{is_settled, seed_refusal}
 use Rattle.core_laws.specs.Settings.{settings_refusal}
 use Rattle.keys_sketches.specs.Meeting.{first_refusal, meet_refusal, refusal_of_intersection}
-use Rattle.keys_sketches.specs.Refusals.{IsUnread, IsUniteRefusal}
-use Rattle.keys_sums.specs.Operands.{IsUnreadSums}
+use Rattle.keys_sketches.specs.Refusals.{IsReadError, IsUniteRefusal}
+use Rattle.keys_sums.specs.Operands.{IsReadSumsError}
 use Rattle.keys_sums.specs.Unions.{IsUniteSumsRefusal, HasNoSums}
-use Rattle.keys_sketches.specs.declared.sketching.Unread.{Unread}
-use Rattle.keys_sketches.specs.declared.sketching.Unread.TheVariants.{Refused, Failed}
+use Rattle.keys_sketches.specs.declared.sketching.ReadError.{ReadError}
+use Rattle.keys_sketches.specs.declared.sketching.ReadError.TheVariants.{Refused, Failed}
 use Rattle.distinct_inputs.specs.Failures.{IsOfUniting}
 use Rattle.distinct_inputs.specs.Images.{HasNoSketch}
 use Rattle.distinct_inputs.specs.Seeds.{AreSeeded}
@@ -26,36 +26,36 @@ use Rattle.distinct_inputs.specs.Seeds.{AreSeeded}
 pub sized : (lg_k seed : ℕ) → 4 ≤ lg_k → lg_k ≤ 26 → seed_hash seed ≢ 0 → settings_refusal lg_k MAX_THETA seed ≡ None
 sized lg_k seed low high seeded = grind (arith, nat_tests)
 
-read_of : (refusal : Option ErrorKind) (e : ErrorKind) → refusal ≡ None → IsUnread refusal (Refused e) → e ≡ OutOfMemory
+read_of : (refusal : Option ErrorKind) (e : ErrorKind) → refusal ≡ None → IsReadError refusal (Refused e) → e ≡ OutOfMemory
 read_of refusal e none (inl is) = let both : None ≡ Some e = sym none ∙ is in absurd (cc)
 read_of refusal e none (inr memory) = memory
 
-pub read_kind : (refusal : Option ErrorKind) (u : Unread) (e : ErrorKind) → refusal ≡ None → u ≡ Refused e → IsUnread refusal u → e ≡ OutOfMemory
-read_kind refusal u e none is refused = read_of refusal e none (subst (IsUnread refusal) is refused)
+pub read_kind : (refusal : Option ErrorKind) (u : ReadError) (e : ErrorKind) → refusal ≡ None → u ≡ Refused e → IsReadError refusal u → e ≡ OutOfMemory
+read_kind refusal u e none is refused = read_of refusal e none (subst (IsReadError refusal) is refused)
 
 -- unions of images, and of images of sums, before which nothing is refused
-united_kind : (seed : ℕ) (refusal : Option ErrorKind) (images : Option (List (List ℕ))) (u : Unread) → refusal ≡ None → IsUniteRefusal seed refusal images u → IsOfUniting false seed images u
+united_kind : (seed : ℕ) (refusal : Option ErrorKind) (images : Option (List (List ℕ))) (u : ReadError) → refusal ≡ None → IsUniteRefusal seed refusal images u → IsOfUniting false seed images u
 united_kind seed refusal images (Failed error) none refused = tt
 united_kind seed refusal images (Refused e) none (inl is) = let both : None ≡ Some e = sym none ∙ is in absurd (cc)
 united_kind seed refusal images (Refused e) none (inr (inl memory)) = inl memory
 united_kind seed refusal images (Refused e) none (inr (inr faulty)) = inr (inr (faulty.0, faulty.2))
 
-sums_kind : (seed : ℕ) (refusal : Option ErrorKind) (images : Option (List (List ℕ))) (u : Unread) → refusal ≡ None → IsUniteSumsRefusal seed refusal images u → IsOfUniting true seed images u
+sums_kind : (seed : ℕ) (refusal : Option ErrorKind) (images : Option (List (List ℕ))) (u : ReadError) → refusal ≡ None → IsUniteSumsRefusal seed refusal images u → IsOfUniting true seed images u
 sums_kind seed refusal images (Failed error) none refused = tt
 sums_kind seed refusal images (Refused e) none (inl is) = let both : None ≡ Some e = sym none ∙ is in absurd (cc)
 sums_kind seed refusal images (Refused e) none (inr (inl memory)) = inl memory
 sums_kind seed refusal images (Refused e) none (inr (inr later)) = elim later.1 [ inl policy ↦ inr (inl (policy, refl)) | inr faulty ↦ inr (inr faulty) ]
 
-pub uniting_refused : {V : Type 0} (r : Result V Unread) (sums : Bool) (seed : ℕ) (refusal : Option ErrorKind) (images : Option (List (List ℕ))) → sums ≡ false → refusal ≡ None → IfErr r (IsUniteRefusal seed refusal images) → IfErr r (IsOfUniting sums seed images)
+pub uniting_refused : {V : Type 0} (r : Result V ReadError) (sums : Bool) (seed : ℕ) (refusal : Option ErrorKind) (images : Option (List (List ℕ))) → sums ≡ false → refusal ≡ None → IfErr r (IsUniteRefusal seed refusal images) → IfErr r (IsOfUniting sums seed images)
 uniting_refused (Ok v) sums seed refusal images is none refused = tt
 uniting_refused (Err u) sums seed refusal images is none refused = subst (λ b. IsOfUniting b seed images u) (sym is) (united_kind seed refusal images u none refused)
 
-pub sums_refused : {V : Type 0} (r : Result V Unread) (sums : Bool) (seed : ℕ) (refusal : Option ErrorKind) (images : Option (List (List ℕ))) → sums ≡ true → refusal ≡ None → IfErr r (IsUniteSumsRefusal seed refusal images) → IfErr r (IsOfUniting sums seed images)
+pub sums_refused : {V : Type 0} (r : Result V ReadError) (sums : Bool) (seed : ℕ) (refusal : Option ErrorKind) (images : Option (List (List ℕ))) → sums ≡ true → refusal ≡ None → IfErr r (IsUniteSumsRefusal seed refusal images) → IfErr r (IsOfUniting sums seed images)
 sums_refused (Ok v) sums seed refusal images is none refused = tt
 sums_refused (Err u) sums seed refusal images is none refused = subst (λ b. IsOfUniting b seed images u) (sym is) (sums_kind seed refusal images u none refused)
 
 -- only unions of sums are refused for a sum of 2^64 or more
-pub policy_of_sums : (sums : Bool) (seed : ℕ) (images : Option (List (List ℕ))) (u : Unread) (e : ErrorKind) → u ≡ Refused e → IsOfUniting sums seed images u → e ≡ Policy → sums ≡ true
+pub policy_of_sums : (sums : Bool) (seed : ℕ) (images : Option (List (List ℕ))) (u : ReadError) (e : ErrorKind) → u ≡ Refused e → IsOfUniting sums seed images u → e ≡ Policy → sums ≡ true
 policy_of_sums sums seed images u e is refused policy = elim (subst (IsOfUniting sums seed images) is refused) [
   | inl memory ↦ let both : OutOfMemory ≡ Policy = sym memory ∙ policy in absurd (cc)
   | inr (inl other) ↦ other.1
@@ -63,7 +63,7 @@ policy_of_sums sums seed images u e is refused policy = elim (subst (IsOfUniting
 ]
 
 -- .. and any for bad data only if some image is none
-pub data_of_images : (sums : Bool) (seed : ℕ) (images : Option (List (List ℕ))) (u : Unread) (e : ErrorKind) → u ≡ Refused e → IsOfUniting sums seed images u → e ≡ InvalidData → HasNoSketch sums seed images
+pub data_of_images : (sums : Bool) (seed : ℕ) (images : Option (List (List ℕ))) (u : ReadError) (e : ErrorKind) → u ≡ Refused e → IsOfUniting sums seed images u → e ≡ InvalidData → HasNoSketch sums seed images
 data_of_images sums seed images u e is refused data_is = elim (subst (IsOfUniting sums seed images) is refused) [
   | inl memory ↦ let both : OutOfMemory ≡ InvalidData = sym memory ∙ data_is in absurd (cc)
   | inr (inl other) ↦ let both : Policy ≡ InvalidData = sym other.0 ∙ data_is in absurd (cc)
@@ -71,8 +71,8 @@ data_of_images sums seed images u e is refused data_is = elim (subst (IsOfUnitin
 ]
 
 -- sketches of sums are refused for bad data only if some image is none
-pub data_of_sums : (seed : ℕ) (images : Option (List (List ℕ))) (u : Unread) (e : ErrorKind) → u ≡ Refused e → IsUnreadSums (IfSome images (HasNoSums seed)) u → e ≡ InvalidData → HasNoSketch true seed images
-data_of_sums seed images u e is refused data_is = elim (subst (IsUnreadSums (IfSome images (HasNoSums seed))) is refused) [
+pub data_of_sums : (seed : ℕ) (images : Option (List (List ℕ))) (u : ReadError) (e : ErrorKind) → u ≡ Refused e → IsReadSumsError (IfSome images (HasNoSums seed)) u → e ≡ InvalidData → HasNoSketch true seed images
+data_of_sums seed images u e is refused data_is = elim (subst (IsReadSumsError (IfSome images (HasNoSums seed))) is refused) [
   | inl memory ↦ let both : OutOfMemory ≡ InvalidData = sym memory ∙ data_is in absurd (cc)
   | inr faulty ↦ faulty.1
 ]

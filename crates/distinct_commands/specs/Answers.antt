@@ -16,7 +16,7 @@ use Rattle.distinct_arguments.specs.Settings.{OptionValues, chosen_group, chosen
 use Rattle.keys_groups.specs.United.{IsUnitedText}
 use Rattle.distinct_arguments.specs.Arguments.{Action, prints, runs, fails}
 use Rattle.distinct_arguments.specs.Texts.{text_of}
-use Rattle.distinct_inputs.specs.Failures.{called, chosen_amount, chosen_hashing, unites_groups, unites_sums}
+use Rattle.distinct_inputs.specs.Failures.{display_name, chosen_amount, chosen_hashing, unites_groups, unites_sums}
 use Rattle.distinct_commands.specs.Eval.{IsEvaluatedOf}
 use Rattle.distinct_inputs.specs.Images.{images_of, in_form}
 use Rattle.distinct_commands.specs.Groups.{IsGroupedText}
@@ -77,7 +77,7 @@ abbrev pub AreShownByName : OptionValues → (seed : ℕ) → (names images : Li
 AreShownByName options seed [] images out = out ≡ []
 AreShownByName options seed (name ∷ names) [] out = out ≡ []
 AreShownByName options seed (name ∷ names) (image ∷ images) out =
-    (s : Compact ℕ) × (rest : List ℕ) × Reads image (seed_hash seed) s × (out ≡ shown_text options (called name) s ++ rest)
+    (s : Compact ℕ) × (rest : List ℕ) × Reads image (seed_hash seed) s × (out ≡ shown_text options (display_name name) s ++ rest)
     × AreShownByName options seed names images rest
 
 -- one line per image, under any name

@@ -20,8 +20,8 @@ use Rattle.distinct_inputs.specs.Failures.{IsOfOperator, IsOfVisits, IsOfTotal, 
 use Rattle.distinct_inputs.specs.Images.{images_of}
 use Rattle.distinct_inputs.specs.Lists.{IsFirstUnnamed}
 use Rattle.distinct_inputs.specs.declared.failure.Failure.{Failure}
-use Rattle.distinct_inputs.specs.declared.lists.Unlisted.{Unlisted}
-use Rattle.distinct_inputs.specs.declared.lists.Unlisted.TheVariants.{Name, Memory as NoMemory}
+use Rattle.distinct_inputs.specs.declared.lists.ListError.{ListError}
+use Rattle.distinct_inputs.specs.declared.lists.ListError.TheVariants.{Name, Memory as NoMemory}
 use Rattle.distinct_inputs.specs.declared.failure.Failure.TheVariants.{Arguments, NoFiles, NoExpression, NoName}
 use Rattle.distinct_inputs.specs.declared.failure.Failure.TheVariants.{NotOneEach, PastResult, Memory}
 use Rattle.distinct_commands.specs.declared.expression.Operands.{Operands}
@@ -32,9 +32,9 @@ abbrev pub HasUnnamed : (number : ℕ) → (text : List ℕ) → Type 0
 HasUnnamed number text = (names : List (List ℕ)) × (steps : List Step) × IsExpressionText text names steps × IsFirstUnnamed number names
 
 -- the names of an expression are not read: memory was refused, or one can't be a file's
-abbrev pub IsUnnamed : (text : List ℕ) → Unlisted → Type 0
-IsUnnamed text NoMemory = ⊤
-IsUnnamed text (Name number) = HasUnnamed number text
+abbrev pub IsNameError : (text : List ℕ) → ListError → Type 0
+IsNameError text NoMemory = ⊤
+IsNameError text (Name number) = HasUnnamed number text
 
 -- a text is not read as an expression: memory was refused, it spells none, or it has a name that can't be a file's
 abbrev pub IsOfExpression : (text : List ℕ) → Failure → Type 0
@@ -89,9 +89,9 @@ IsOfEvaluation true options seed text texts failure = IsOfSumsResult options see
 IsOfEvaluation false options seed text texts failure = IsOfThetas options seed texts failure
 
 -- no image is named, if this may be, or another failure
-abbrev pub OrUnnamed : (IsAlone : Type 0) → (IsOther : Failure → Type 0) → Failure → Type 0
-OrUnnamed IsAlone IsOther NoFiles = IsAlone
-OrUnnamed IsAlone IsOther failure = IsOther failure
+abbrev pub OrNoFiles : (HasNone : Type 0) → (IsOther : Failure → Type 0) → Failure → Type 0
+OrNoFiles HasNone IsOther NoFiles = HasNone
+OrNoFiles HasNone IsOther failure = IsOther failure
 
 -- a command on files of these names fails before it writes: what it reads is at fault, or memory was refused; and by command, no image
 -- is named, there are not as many as are expected, `minus` doesn't have two, or `sum` doesn't have the field of its numbers
@@ -99,10 +99,10 @@ abbrev pub IsOfCommand : Command → OptionValues → (seed count : ℕ) → (te
 IsOfCommand Count options seed count texts failure = IsOfReading failure
 IsOfCommand Sketch options seed count texts failure = IsOfSketch options seed texts failure
 IsOfCommand (Combine operator) options seed count texts failure =
-    OrUnnamed (count ≡ 0) (IsOfOperator (unites_groups operator options) operator options seed count texts) failure
-IsOfCommand Show options seed count texts failure = OrUnnamed (count ≡ 0) (IsOfImages false options.hex seed (images_in false options texts)) failure
+    OrNoFiles (count ≡ 0) (IsOfOperator (unites_groups operator options) operator options seed count texts) failure
+IsOfCommand Show options seed count texts failure = OrNoFiles (count ≡ 0) (IsOfImages false options.hex seed (images_in false options texts)) failure
 IsOfCommand Eval options seed count texts failure = ⊥
-IsOfCommand Visits options seed count texts failure = OrUnnamed ((count ≡ 0) × (options.sums ≡ true)) (IsOfVisits options seed texts) failure
+IsOfCommand Visits options seed count texts failure = OrNoFiles ((count ≡ 0) × (options.sums ≡ true)) (IsOfVisits options seed texts) failure
 IsOfCommand Sum options seed count texts failure = IsOfTotal options seed texts failure
 
 -- .. or `eval` fails on an expression

@@ -23,14 +23,21 @@ use distinct_arguments::{Operator, Options};
 use distinct_inputs::{Console, Failure, Images, Remark, out_of_memory};
 use estimates::Deviations;
 use keys_reports::report_of;
-use keys_sketches::{Sources, United, Unread, difference, intersection, read_image, unite_images};
+use keys_sketches::{
+    ReadError, Sources, United, difference, intersection, read_image, unite_images,
+};
 use keys_sums::unite_sums;
 use sketch_base::{Error, ErrorKind};
 use std::alloc::Global;
 use theta_sketches::CompactThetaSketch;
 
 /// The failure for an image that was not read.
-pub fn refused<S: Sources>(images: &Images<'_, S>, sums: bool, hex: bool, error: Error) -> Failure
+pub fn image_failure<S: Sources>(
+    images: &Images<'_, S>,
+    sums: bool,
+    hex: bool,
+    error: Error,
+) -> Failure
     requires { (error ≡ OutOfMemory) ⊎ (error ≡ InvalidData) }
     ensures memory { error ≡ OutOfMemory → result ≡ failure.Memory }
     ensures data { error ≡ InvalidData → ReportsNoSketch sums hex images.now result }
@@ -40,7 +47,7 @@ pub fn refused<S: Sources>(images: &Images<'_, S>, sums: bool, hex: bool, error:
     ensures fallible { (may_fail : Bool) → UnreadableIf may_fail result }
 {
     if error.kind() == ErrorKind::InvalidData {
-        images.no_sketch(sums, hex)
+        images.sketch_failure(sums, hex)
     } else {
         out_of_memory(error)
     }
@@ -64,10 +71,10 @@ pub fn next_sketch<S: Sources>(
     match images.next_image() {
         Ok(Some(image)) => match read_image(alloc, seed, image.as_slice()) {
             Ok(sketch) => Ok(Some(sketch)),
-            Err(error) => Err(refused(images, false, hex, error)),
+            Err(error) => Err(image_failure(images, false, hex, error)),
         },
         Ok(None) => Ok(None),
-        Err(error) => Err(images.unreadable(error)),
+        Err(error) => Err(images.read_failure(error)),
     }
 }
 
@@ -105,13 +112,13 @@ fn two_of(sketches: &[CompactThetaSketch]) -> Option<(&CompactThetaSketch, &Comp
     }
 }
 
-/// The union of images, of sums if the options say so. If it is refused, the failure is that of `not_added`.
-fn united<S: Sources>(
+/// The union of images, of sums if the options say so. If it is refused, the failure is that of `union_failure`.
+fn unite<S: Sources>(
     alloc: Global,
     options: &Options<'_>,
     seed: u64,
     images: &mut Images<'_, S>,
-) -> Result<United, Unread>
+) -> Result<United, ReadError>
     requires seeded { seed_hash seed ≢ 0 }
     ensures united { IfSome (remaining_images S.Source.remaining S.texts images.old) (λ all.
         IfOk result (λ u. IsUnionOf options.now.sums seed options.now.lg_k all u.image.items)) }
@@ -136,7 +143,11 @@ pub fn remark_coarser<S: Sources, C: Console>(images: &Images<'_, S>, lg_k: u8, 
 
 /// The failure for an image that was not added to a union. That the sum of a key is 2^64 or more is a failure of
 /// images of sums alone.
-pub fn not_added<S: Sources>(images: &Images<'_, S>, options: &Options<'_>, error: Error) -> Failure
+pub fn union_failure<S: Sources>(
+    images: &Images<'_, S>,
+    options: &Options<'_>,
+    error: Error,
+) -> Failure
     requires { (error ≡ OutOfMemory) ⊎ ((error ≡ Policy) ⊎ (error ≡ InvalidData)) }
     ensures policy { error ≡ Policy → ReportsPastUnion images.now result }
     ensures data { error ≡ InvalidData → ReportsNoSketch options.now.sums options.now.hex images.now result }
@@ -147,8 +158,8 @@ pub fn not_added<S: Sources>(images: &Images<'_, S>, options: &Options<'_>, erro
     ensures fallible { (may_fail : Bool) → UnreadableIf may_fail result }
 {
     match error.kind() {
-        ErrorKind::Policy => images.past_union(),
-        ErrorKind::InvalidData => images.no_sketch(options.sums, options.hex),
+        ErrorKind::Policy => images.overflow_failure(),
+        ErrorKind::InvalidData => images.sketch_failure(options.sums, options.hex),
         _ => Failure::Memory,
     }
 }
@@ -203,14 +214,14 @@ impl<'a, S: Sources + Drop> Job<'a, S> {
     {
         let (alloc, options, seed) = (self.alloc, self.options, self.seed);
         let mut images = Images::of(alloc, self.inputs, options.sums, options.hex, seed);
-        match united(alloc, options, seed, &mut images) {
+        match unite(alloc, options, seed, &mut images) {
             Ok(united) => {
                 check_count(options.expected, united.count)?;
                 remark_coarser(&images, options.lg_k, console);
                 Ok(united.image)
             }
-            Err(Unread::Failed(error)) => Err(images.unreadable(error)),
-            Err(Unread::Refused(error)) => Err(not_added(&images, options, error)),
+            Err(ReadError::Failed(error)) => Err(images.read_failure(error)),
+            Err(ReadError::Refused(error)) => Err(union_failure(&images, options, error)),
         }
     }
 }

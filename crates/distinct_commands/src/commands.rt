@@ -23,7 +23,7 @@ use crate::united::unites_groups;
 use distinct_arguments::{Command, Fault, Options, Request, text_of};
 use distinct_inputs::{Console, Failure, Inputs, out_of_memory, put};
 use keys_lines::Hashing;
-use keys_sketches::{Sources, Unread, hex_line, image_of, sketch_sources};
+use keys_sketches::{ReadError, Sources, hex_line, image_of, sketch_sources};
 use std::alloc::Global;
 use std::io::Write;
 use theta_sketches::CompactThetaSketch;
@@ -272,8 +272,8 @@ impl<'a, S: Sources + Drop> Job<'a, S> {
         };
         match sketch_sources(alloc, hashing, options.lg_k, &mut inputs, console) {
             Ok(sketch) => Ok(sketch),
-            Err(Unread::Failed(error)) => Err(inputs.unreadable(alloc, error)),
-            Err(Unread::Refused(error)) => Err(out_of_memory(error)),
+            Err(ReadError::Failed(error)) => Err(inputs.read_failure(alloc, error)),
+            Err(ReadError::Refused(error)) => Err(out_of_memory(error)),
         }
     }
 }

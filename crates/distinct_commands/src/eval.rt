@@ -27,7 +27,7 @@ use distinct_arguments::Options;
 use distinct_inputs::{Console, Failure, Images, Inputs, out_of_memory};
 use expression_evaluation::evaluate;
 use keys_lines::Hashing;
-use keys_sketches::{BLOCK, Sources, TextReader, Unread, sketch_lines};
+use keys_sketches::{BLOCK, ReadError, Sources, TextReader, sketch_lines};
 use std::alloc::Global;
 use theta_sketches::CompactThetaSketch;
 
@@ -39,7 +39,7 @@ fn sketch_source<R: TextReader, C: Console>(
     seed: u64,
     source: &mut R,
     console: &mut C,
-) -> Result<CompactThetaSketch, Unread>
+) -> Result<CompactThetaSketch, ReadError>
     ensures sketch { IfSome (R.remaining source.old) (λ text.
         IfOk result (λ s. s ≡ sketch_of_text (options_of options.now) seed text)) }
     ensures seeded { IfOk result (λ s. s.seed_hash ≡ seed_hash seed) }
@@ -73,12 +73,12 @@ fn next_lines<S: Sources, C: Console>(
     let mut source = match inputs.next_source() {
         Ok(Some(source)) => source,
         Ok(None) => return Ok(None),
-        Err(error) => return Err(inputs.unreadable(alloc, error)),
+        Err(error) => return Err(inputs.read_failure(alloc, error)),
     };
     match sketch_source(alloc, options, seed, &mut source, console) {
         Ok(sketch) => Ok(Some(sketch)),
-        Err(Unread::Failed(error)) => Err(inputs.unreadable(alloc, error)),
-        Err(Unread::Refused(error)) => Err(out_of_memory(error)),
+        Err(ReadError::Failed(error)) => Err(inputs.read_failure(alloc, error)),
+        Err(ReadError::Refused(error)) => Err(out_of_memory(error)),
     }
 }
 
@@ -172,7 +172,7 @@ impl<'a, S: Sources + Drop> Job<'a, S> {
     }
 
     /// The result of an expression over the theta sketches of the sources, which have its names in their order.
-    fn evaluated<C: Console>(
+    fn evaluate_theta<C: Console>(
         self,
         expression: &Expression<'_>,
         console: &mut C,
@@ -214,8 +214,8 @@ impl<'a, S: Sources + Drop> Job<'a, S> {
         ensures fallible { IfErr result (UnreadableIf S.may_fail) }
     {
         if self.options.sums {
-            return self.sums_evaluated(expression);
+            return self.evaluate_sums(expression);
         }
-        self.evaluated(expression, console)
+        self.evaluate_theta(expression, console)
     }
 }

@@ -19,7 +19,7 @@ ghost use Rattle.distinct_inputs.specs.Images.{images_of, in_form};
 ghost use Rattle.distinct_inputs.specs.Seeds.{AreSeeded};
 ghost use Rattle.distinct_inputs.specs.declared.failure.Failure.TheVariants as failure;
 
-use crate::combine::refused;
+use crate::combine::image_failure;
 use crate::commands::in_form;
 use crate::expression::Expression;
 use crate::job::Job;
@@ -27,14 +27,14 @@ use crate::sums::total_text;
 use distinct_arguments::Options;
 use distinct_inputs::{Failure, Images, out_of_memory};
 use expression_evaluation::evaluate_sums;
-use keys_sketches::{Sources, Unread};
+use keys_sketches::{ReadError, Sources};
 use keys_sums::{all_sums, sums_image};
 use sketch_base::{Error, ErrorKind};
 use std::alloc::Global;
 use tuple_sketches::CompactTupleSketch;
 
 /// The failure of an evaluation that is refused: memory, or a sum of a key that is 2^64 or more.
-fn unevaluated(alloc: Global, text: &str, error: Error) -> Failure
+fn evaluation_failure(alloc: Global, text: &str, error: Error) -> Failure
     requires { (error ≡ OutOfMemory) ⊎ (error ≡ Policy) }
     ensures of_result { (lg_k : ℕ) (steps : List Step) (sketches : List (Compact (TupleEntry ℕ)))
         → (error ≡ Policy → MayRefuse sum_rules lg_k (sums_values sketches) steps (Some []))
@@ -76,7 +76,7 @@ fn result_of(
     let steps = expression.steps.as_slice();
     match evaluate_sums(alloc, seed, options.lg_k, steps, sketches) {
         Ok(sketch) => Ok(sketch),
-        Err(error) => Err(unevaluated(alloc, expression.text, error)),
+        Err(error) => Err(evaluation_failure(alloc, expression.text, error)),
     }
 }
 
@@ -114,13 +114,13 @@ impl<'a, S: Sources + Drop> Job<'a, S> {
         let mut images = Images::of(alloc, self.inputs, true, options.hex, seed);
         match all_sums(alloc, seed, &mut images) {
             Ok(sketches) => Ok(sketches),
-            Err(Unread::Failed(error)) => Err(images.unreadable(error)),
-            Err(Unread::Refused(error)) => Err(refused(&images, true, options.hex, error)),
+            Err(ReadError::Failed(error)) => Err(images.read_failure(error)),
+            Err(ReadError::Refused(error)) => Err(image_failure(&images, true, options.hex, error)),
         }
     }
 
     /// The result of an expression over the sketches of sums of the sources, which have its names in their order.
-    pub fn sums_evaluated(self, expression: &Expression<'_>) -> Result<Vec<u8>, Failure>
+    pub fn evaluate_sums(self, expression: &Expression<'_>) -> Result<Vec<u8>, Failure>
         requires seeded { seed_hash self.seed ≢ 0 }
         requires read { IsRead expression.now }
         ensures evaluated { IfSome (S.texts self.entry.inputs.sources) (λ texts. IfOk result (λ v.

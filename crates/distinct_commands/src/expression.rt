@@ -3,11 +3,11 @@ ghost use Rattle.std.specs.Prelude.{◌≡◌, ◌≢◌, ◌∷◌, [], IfOk, I
 ghost use Rattle.expression_text.specs.Grammar.{SpellsNothing};
 ghost use Rattle.expression_text.specs.declared.fault.Reason.TheVariants.{Memory};
 ghost use Rattle.distinct_inputs.specs.Lists.{names_of};
-ghost use Rattle.distinct_commands.specs.Failing.{IsOfExpression, IsOfWords, IsUnnamed};
+ghost use Rattle.distinct_commands.specs.Failing.{IsOfExpression, IsOfWords, IsNameError};
 ghost use Rattle.distinct_commands.specs.Operands.{files_of, IsRead};
 
 use distinct_arguments::Fault;
-use distinct_inputs::{Failure, Unlisted, texts_of};
+use distinct_inputs::{Failure, ListError, texts_of};
 use expression_text::{Parsed, Reason, Step, SyntaxFault, parse};
 use std::alloc::Global;
 
@@ -44,7 +44,7 @@ impl<'a> Operands<'a> {
 }
 
 /// The failure for a text that is not an expression, for this reason.
-fn unspelled(alloc: Global, text: &str, fault: SyntaxFault) -> Failure
+fn syntax_failure(alloc: Global, text: &str, fault: SyntaxFault) -> Failure
     requires { fault.reason ≢ Memory → SpellsNothing text.now }
     ensures { IsOfExpression text.now result }
 {
@@ -58,13 +58,13 @@ fn unspelled(alloc: Global, text: &str, fault: SyntaxFault) -> Failure
 }
 
 /// The failure for an expression with a name that can't be a file's.
-fn unnamed(alloc: Global, text: &str, reason: Unlisted) -> Failure
-    requires { IsUnnamed text.now reason }
+fn name_failure(alloc: Global, text: &str, reason: ListError) -> Failure
+    requires { IsNameError text.now reason }
     ensures { IsOfExpression text.now result }
 {
     match reason {
-        Unlisted::Memory => Failure::Memory,
-        Unlisted::Name(number) => match String::from_str(alloc, text) {
+        ListError::Memory => Failure::Memory,
+        ListError::Name(number) => match String::from_str(alloc, text) {
             Ok(text) => Failure::NoName(text, number),
             Err(_) => Failure::Memory,
         },
@@ -80,12 +80,12 @@ pub fn expression_in(alloc: Global, text: &str) -> Result<Expression<'_>, Failur
 {
     let parsed = match parse(alloc, text.as_bytes()) {
         Ok(parsed) => parsed,
-        Err(fault) => return Err(unspelled(alloc, text, fault)),
+        Err(fault) => return Err(syntax_failure(alloc, text, fault)),
     };
     let Parsed { names, steps } = parsed;
     match texts_of(alloc, names.as_slice()) {
         Ok(names) => Ok(Expression { text, names, steps }),
-        Err(reason) => Err(unnamed(alloc, text, reason)),
+        Err(reason) => Err(name_failure(alloc, text, reason)),
     }
 }
 

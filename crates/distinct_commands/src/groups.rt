@@ -23,7 +23,7 @@ use keys_groups::{
 };
 use keys_lines::{Hashing, Key};
 use keys_reports::{count_line, json_line, report_of, tsv_row};
-use keys_sketches::{Sources, Unread};
+use keys_sketches::{ReadError, Sources};
 use std::alloc::{AllocError, Global};
 use theta_sketches::CompactThetaSketch;
 
@@ -244,8 +244,8 @@ impl<'a, S: Sources + Drop> Job<'a, S> {
         };
         match group_sources(alloc, grouping, &mut inputs, console) {
             Ok(groups) => Ok(groups),
-            Err(Unread::Failed(error)) => Err(inputs.unreadable(alloc, error)),
-            Err(Unread::Refused(error)) => Err(out_of_memory(error)),
+            Err(ReadError::Failed(error)) => Err(inputs.read_failure(alloc, error)),
+            Err(ReadError::Refused(error)) => Err(out_of_memory(error)),
         }
     }
 }

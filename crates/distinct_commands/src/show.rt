@@ -3,14 +3,14 @@ ghost use Rattle.std.specs.Prelude.{◌≡◌, ◌++◌, false, None, Some, IfOk
 ghost use Rattle.distinct_arguments.specs.Faults.{options_of};
 ghost use Rattle.distinct_commands.specs.Answers.{AreShownByName, AreShown, IsShownOf};
 ghost use Rattle.distinct_inputs.specs.Lists.{names_of};
-ghost use Rattle.distinct_inputs.specs.Failures.{called, images_in, IsOfImages, UnreadableIf};
+ghost use Rattle.distinct_inputs.specs.Failures.{display_name, images_in, IsOfImages, UnreadableIf};
 ghost use Rattle.distinct_inputs.specs.Images.{remaining_images};
 ghost use Rattle.distinct_commands.specs.Texts.{chosen_deviations, count_text, shown_text, head_of};
 
 use crate::combine::next_sketch;
 use crate::job::Job;
 use distinct_arguments::{Form, Options};
-use distinct_inputs::{Failure, Images, called};
+use distinct_inputs::{Failure, Images, display_name};
 use estimates::Deviations;
 use keys_reports::{count_line, json_line, report_of, shown_line, tsv_head, tsv_row};
 use keys_sketches::Sources;
@@ -141,7 +141,7 @@ fn show_files<S: Sources>(
         let Some(sketch) = next_sketch(alloc, seed, options.hex, images)? else {
             return Ok(shown);
         };
-        let text = shown_text(alloc, options, called(file.as_str()), &sketch)?;
+        let text = shown_text(alloc, options, display_name(file.as_str()), &sketch)?;
         shown.extend_from_slice(text.as_bytes())?;
         left = others;
     }

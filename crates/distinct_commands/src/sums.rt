@@ -19,7 +19,7 @@ use distinct_arguments::{Fault, Form, Options};
 use distinct_inputs::{Failure, Inputs, out_of_memory};
 use keys_lines::Hashing;
 use keys_sketches::Sources;
-use keys_sums::{Amount, Unsummed, sum_sources, sums_image};
+use keys_sums::{Amount, SumError, sum_sources, sums_image};
 use std::alloc::{AllocError, Global};
 use totals::{total_json_line, total_line, total_of, total_tsv_head, total_tsv_row};
 use tuple_sketches::CompactTupleSketch;
@@ -38,7 +38,7 @@ pub fn chosen_amount(options: &Options<'_>) -> Option<Amount>
 }
 
 /// The failure for a line of the source that was opened last, with which the sum of its key would be 2^64 or more.
-fn past_greatest<S: Sources>(alloc: Global, inputs: &Inputs<'_, S>, line: u64) -> Failure
+fn overflow_failure<S: Sources>(alloc: Global, inputs: &Inputs<'_, S>, line: u64) -> Failure
     ensures of_sums { (options : OptionValues) (seed : ℕ) (amount : Amount) (texts : Option (List (List ℕ)))
         → HasGreatSum options seed amount texts
         → IsOfSums options seed amount texts result }
@@ -51,7 +51,7 @@ fn past_greatest<S: Sources>(alloc: Global, inputs: &Inputs<'_, S>, line: u64) -
 }
 
 /// The failure for a line of the source that was opened last, which has no number to add.
-fn not_a_number<S: Sources>(alloc: Global, inputs: &Inputs<'_, S>, line: u64) -> Failure
+fn number_failure<S: Sources>(alloc: Global, inputs: &Inputs<'_, S>, line: u64) -> Failure
     ensures of_sums { (options : OptionValues) (seed : ℕ) (amount : Amount) (texts : Option (List (List ℕ)))
         → amount ≢ One
         → HasNoNumberIn amount line texts
@@ -121,10 +121,10 @@ impl<'a, S: Sources + Drop> Job<'a, S> {
         };
         match sum_sources(alloc, hashing, amount, options.lg_k, &mut inputs) {
             Ok(sums) => Ok(sums),
-            Err(Unsummed::Failed(error)) => Err(inputs.unreadable(alloc, error)),
-            Err(Unsummed::PastGreatest(line)) => Err(past_greatest(alloc, &inputs, line)),
-            Err(Unsummed::NotANumber(line)) => Err(not_a_number(alloc, &inputs, line)),
-            Err(Unsummed::Refused(error)) => Err(out_of_memory(error)),
+            Err(SumError::Failed(error)) => Err(inputs.read_failure(alloc, error)),
+            Err(SumError::PastGreatest(line)) => Err(overflow_failure(alloc, &inputs, line)),
+            Err(SumError::NotANumber(line)) => Err(number_failure(alloc, &inputs, line)),
+            Err(SumError::Refused(error)) => Err(out_of_memory(error)),
         }
     }
 

@@ -9,7 +9,7 @@ ghost use Rattle.distinct_inputs.specs.Failures.{unites_groups, IsOfGroups, Repo
 use crate::job::Job;
 use distinct_arguments::{Operator, Options};
 use distinct_inputs::{Coarser, Console, Failure, Remark, out_of_memory};
-use keys_groups::{LineFlaw, Ununited, unite_groups, united_text};
+use keys_groups::{LineFlaw, UniteError, unite_groups, united_text};
 use keys_sketches::Sources;
 use std::alloc::Global;
 
@@ -21,7 +21,7 @@ pub fn unites_groups(operator: Operator, options: &Options<'_>) -> bool
 }
 
 /// The failure for a line with this flaw: its number, from 1, and the name of its file in messages.
-fn flawed(alloc: Global, name: &str, line: u64, flaw: LineFlaw) -> Failure
+fn line_failure(alloc: Global, name: &str, line: u64, flaw: LineFlaw) -> Failure
     ensures reports { ReportsFlawed name.now line flaw result }
     ensures of_groups { (seed : ℕ) (texts : Option (List (List ℕ)))
         → IfSome texts (HasFirstFlawed seed line flaw)
@@ -82,9 +82,14 @@ impl<'a, S: Sources + Drop> Job<'a, S> {
                     Err(error) => Err(out_of_memory(error)),
                 }
             }
-            Err(Ununited::Failed(error)) => Err(inputs.unreadable(alloc, error)),
-            Err(Ununited::Flawed(line, flaw)) => Err(flawed(alloc, inputs.name(), line, flaw)),
-            Err(Ununited::Refused(error)) => Err(out_of_memory(error)),
+            Err(UniteError::Failed(error)) => Err(inputs.read_failure(alloc, error)),
+            Err(UniteError::Flawed(line, flaw)) => Err(line_failure(
+                alloc,
+                inputs.name(),
+                line,
+                flaw,
+            )),
+            Err(UniteError::Refused(error)) => Err(out_of_memory(error)),
         }
     }
 }

@@ -10,13 +10,13 @@ ghost use Rattle.distinct_inputs.specs.Images.{images_of, remaining_images};
 ghost use Rattle.distinct_commands.specs.Visits.{visits_of, ranges_head, bin_text, bin_up_to, visits_text};
 ghost use Rattle.distinct_commands.specs.Visits.{IsVisitsOfImages, IsVisitsText};
 
-use crate::combine::{not_added, remark_coarser};
+use crate::combine::{remark_coarser, union_failure};
 use crate::job::Job;
 use crate::show::chosen_deviations;
 use distinct_arguments::{Form, Options};
 use distinct_inputs::{Console, Failure, Images};
 use keys_reports::{range_json_line, range_line, range_tsv_head, range_tsv_row, report_of_part};
-use keys_sketches::{Sources, Unread};
+use keys_sketches::{ReadError, Sources};
 use keys_sums::{
     Amount, BINS, UnionOfSums, count_in, greatest_of, greatest_sum, least_of, union_of_sums,
 };
@@ -99,13 +99,13 @@ fn visits_text(
     Ok(text)
 }
 
-/// The union of images of sums. If it is refused, the failure is that of `not_added`.
+/// The union of images of sums. If it is refused, the failure is that of `union_failure`.
 fn united_visits<S: Sources>(
     alloc: Global,
     options: &Options<'_>,
     seed: u64,
     images: &mut Images<'_, S>,
-) -> Result<UnionOfSums, Unread>
+) -> Result<UnionOfSums, ReadError>
     requires seeded { seed_hash seed ≢ 0 }
     ensures united { IfSome (remaining_images S.Source.remaining S.texts images.old) (λ all.
         IfOk result (λ u. IsUnitedSums seed options.now.lg_k all u.sketch)) }
@@ -153,8 +153,8 @@ impl<'a, S: Sources + Drop> Job<'a, S> {
                 let text = visits_text(alloc, options, &united.sketch)?;
                 Ok(text.into_bytes())
             }
-            Err(Unread::Failed(error)) => Err(images.unreadable(error)),
-            Err(Unread::Refused(error)) => Err(not_added(&images, options, error)),
+            Err(ReadError::Failed(error)) => Err(images.read_failure(error)),
+            Err(ReadError::Refused(error)) => Err(union_failure(&images, options, error)),
         }
     }
 

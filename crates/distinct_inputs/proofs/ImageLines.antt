@@ -14,7 +14,7 @@ use Rattle.std.proofs.lemmas.Bool.{cond_both}
 use Rattle.std.proofs.lemmas.Str.Ascii.{trim_ascii_is}
 use Rattle.keys_sketches.specs.Hex.{bytes_of_hex}
 use Rattle.keys_sketches.specs.Sources.{GivesNext}
-use Rattle.distinct_inputs.specs.Images.{alone, count_of, is_followed, ended_lines, line_image, line_images, or_none, images_behind, images_in_lines, parts_left, open_text, GivesOrCloses}
+use Rattle.distinct_inputs.specs.Images.{only_image, count_of, is_followed, ended_lines, line_image, line_images, or_none, images_behind, images_in_lines, parts_left, open_text, GivesOrCloses}
 
 -- the first line of a text, and the lines after it
 ended_first : (b : ℕ) (t : List ℕ) → ended_lines (b ∷ t) ≡ take_through 10 (b ∷ t) ∷ ended_lines (drop_through 10 (b ∷ t))
@@ -180,6 +180,6 @@ count_of_nothing true = refl
 count_of_nothing false = refl
 
 -- bytes have no more entries once they are none if something follows an image
-pub count_of_alone : (sums alone_sums : Bool) (bytes : List ℕ) (most : ℕ) → count_of sums bytes ≤ most → count_of sums (alone alone_sums bytes) ≤ most
-count_of_alone sums alone_sums bytes most few =
-    cond_both (is_followed alone_sums bytes) [] bytes (λ (it : List ℕ). count_of sums it ≤ most) (λ followed. let none = count_of_nothing sums in omega (arith, none)) (λ single. few)
+pub count_of_only_image : (sums only_sums : Bool) (bytes : List ℕ) (most : ℕ) → count_of sums bytes ≤ most → count_of sums (only_image only_sums bytes) ≤ most
+count_of_only_image sums only_sums bytes most few =
+    cond_both (is_followed only_sums bytes) [] bytes (λ (it : List ℕ). count_of sums it ≤ most) (λ followed. let none = count_of_nothing sums in omega (arith, none)) (λ single. few)

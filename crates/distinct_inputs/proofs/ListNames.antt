@@ -6,9 +6,9 @@ use Rattle.keys_lines.specs.Lines.{Lacks}
 use Rattle.std.specs.List.{AllByRecursion}
 use Rattle.std.specs.Prelude.{String, string_bytes}
 use Rattle.std.proofs.lemmas.List.{length-map}
-use Rattle.distinct_inputs.specs.Lists.{names_of, names_in, IsName, IsNotPut, IsUnlisted}
-use Rattle.distinct_inputs.specs.declared.lists.Unlisted.{Unlisted}
-use Rattle.distinct_inputs.specs.declared.lists.Unlisted.TheVariants.{Name, Memory}
+use Rattle.distinct_inputs.specs.Lists.{names_of, names_in, IsName, IsNotPut, IsListError}
+use Rattle.distinct_inputs.specs.declared.lists.ListError.{ListError}
+use Rattle.distinct_inputs.specs.declared.lists.ListError.TheVariants.{Name, Memory}
 
 lacks-rest : (b : ℕ) (bs : List ℕ) → Lacks 0 (b ∷ bs) → Lacks 0 bs
 lacks-rest b bs h i lt = h (suc i) (omega arith)
@@ -49,10 +49,10 @@ pub named_more : (names : List (List ℕ)) (name : List ℕ) (new : List (List �
 named_more names name new all is put = subst (AllByRecursion IsName) (sym put) (named_behind names name all is)
 
 -- behind names a text that can't be one
-pub unlisted : {A : Type 0} (names : List (String A)) (text : List ℕ) (back all : List (List ℕ)) (u : Unlisted) → all ≡ names_of names ++ text ∷ back →
-    AllByRecursion IsName (names_of names) → IsNotPut (length names) text u → IsUnlisted all u
-unlisted names text back all Memory parted named not_put = tt
-unlisted names text back all (Name number) parted named not_put = record {
+pub list_error : {A : Type 0} (names : List (String A)) (text : List ℕ) (back all : List (List ℕ)) (u : ListError) → all ≡ names_of names ++ text ∷ back →
+    AllByRecursion IsName (names_of names) → IsNotPut (length names) text u → IsListError all u
+list_error names text back all Memory parted named not_put = tt
+list_error names text back all (Name number) parted named not_put = record {
   front = names_of names;
   text = text;
   back = back;

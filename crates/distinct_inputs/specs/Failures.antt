@@ -10,8 +10,8 @@ use Rattle.keys_lines.specs.declared.key.Hashing.{Hashing}
 use Rattle.keys_lines.specs.declared.key.Key.{Key}
 use Rattle.keys_sketches.specs.Refusals.{HasFault}
 use Rattle.keys_sketches.specs.declared.header.Flaw.TheVariants.{Damaged}
-use Rattle.keys_sketches.specs.declared.sketching.Unread.{Unread}
-use Rattle.keys_sketches.specs.declared.sketching.Unread.TheVariants.{Refused, Failed}
+use Rattle.keys_sketches.specs.declared.sketching.ReadError.{ReadError}
+use Rattle.keys_sketches.specs.declared.sketching.ReadError.TheVariants.{Refused, Failed}
 use Rattle.keys_sums.specs.Amounts.{added_by}
 use Rattle.keys_sums.specs.Refusals.{HasNoNumberAt, IsPast}
 use Rattle.keys_sums.specs.declared.addends.Amount.{Amount}
@@ -49,8 +49,8 @@ failure_status Terminal = 2
 failure_status _ = 1
 
 -- the name of a file in messages
-abbrev pub called : List ℕ → List ℕ
-called name = if bytes_eq name (codes "-") then codes "standard input" else name
+abbrev pub display_name : List ℕ → List ℕ
+display_name name = if bytes_eq name (codes "-") then codes "standard input" else name
 
 -- the next name is the current one, and the others are left; if no name is left, the current one stays
 abbrev pub NotesNext : {A : Type 0} → (current : List ℕ) → (left : List (String A)) → (new_current : List ℕ) → (new_left : List (String A)) → Type 0
@@ -68,23 +68,23 @@ ReportsUnreadable name error _ = ⊥
 abbrev pub ReportsNoSketch : {S R : Type 0} → (sums hex : Bool) → Images S R → Failure → Type 0
 ReportsNoSketch sums hex images Memory = ⊤
 ReportsNoSketch sums hex images (NoSketch file number flaw) =
-    (string_bytes file ≡ called images.inputs.current.now) × (number ≡ images.line) × (sums ≡ false) × (flaw ≡ unwrap_or images.flaw Damaged)
+    (string_bytes file ≡ display_name images.inputs.current.now) × (number ≡ images.line) × (sums ≡ false) × (flaw ≡ unwrap_or images.flaw Damaged)
     × ((hex && images.line == 0) ≡ false) × ((hex && is_none images.flaw) ≡ false)
 ReportsNoSketch sums hex images (NoSums file number flaw) =
-    (string_bytes file ≡ called images.inputs.current.now) × (number ≡ images.line) × (sums ≡ true) × (flaw ≡ unwrap_or images.flaw Damaged)
+    (string_bytes file ≡ display_name images.inputs.current.now) × (number ≡ images.line) × (sums ≡ true) × (flaw ≡ unwrap_or images.flaw Damaged)
     × ((hex && images.line == 0) ≡ false) × ((hex && is_none images.flaw) ≡ false)
 ReportsNoSketch sums hex images (NoHex file number) =
-    (string_bytes file ≡ called images.inputs.current.now)
+    (string_bytes file ≡ display_name images.inputs.current.now)
     × (number ≡ images.line)
     × ((hex && images.line == 0) ≡ false)
     × ((hex && is_none images.flaw) ≡ true)
-ReportsNoSketch sums hex images (NoLine file) = (string_bytes file ≡ called images.inputs.current.now) × ((hex && images.line == 0) ≡ true)
+ReportsNoSketch sums hex images (NoLine file) = (string_bytes file ≡ display_name images.inputs.current.now) × ((hex && images.line == 0) ≡ true)
 ReportsNoSketch sums hex images _ = ⊥
 
 -- memory was refused, or the sum of a key is 2^64 or more with the file that was opened last, or its line that was read last
 abbrev pub ReportsPastUnion : {S R : Type 0} → Images S R → Failure → Type 0
 ReportsPastUnion images Memory = ⊤
-ReportsPastUnion images (PastUnion file number) = (string_bytes file ≡ called images.inputs.current.now) × (number ≡ images.line)
+ReportsPastUnion images (PastUnion file number) = (string_bytes file ≡ display_name images.inputs.current.now) × (number ≡ images.line)
 ReportsPastUnion images _ = ⊥
 
 -- memory was refused, or the line of this number of the file of this name has this flaw
@@ -178,14 +178,14 @@ UnreadableIf may_fail _ = ⊤
 -- no names from the list of this name and, if they are known, of these bytes: memory was refused, the list can't be read,
 -- it has lines and no NUL byte, or the first name that can't be one has this number
 abbrev pub IsOfList : (name : List ℕ) → (list : Option (List ℕ)) → Failure → Type 0
-IsOfList name list (NoNul file) = (string_bytes file ≡ called name) × IfSome list (λ bytes. are_lines bytes ≡ true)
-IsOfList name list (NoName file number) = (string_bytes file ≡ called name) × IfSome list (λ bytes. IsFirstUnnamed number (names_in bytes))
+IsOfList name list (NoNul file) = (string_bytes file ≡ display_name name) × IfSome list (λ bytes. are_lines bytes ≡ true)
+IsOfList name list (NoName file number) = (string_bytes file ≡ display_name name) × IfSome list (λ bytes. IsFirstUnnamed number (names_in bytes))
 IsOfList name list failure = IsOfReading failure
 
 -- no seed from the file of this name and, if they are known, of these bytes: memory was refused, the file can't be read, or
 -- its bytes spell no seed
 abbrev pub IsOfSeedFile : (name : List ℕ) → (bytes : Option (List ℕ)) → Failure → Type 0
-IsOfSeedFile name bytes (NoSeed file) = (string_bytes file ≡ called name) × IfSome bytes (λ known. seed_in known ≡ None)
+IsOfSeedFile name bytes (NoSeed file) = (string_bytes file ≡ display_name name) × IfSome bytes (λ known. seed_in known ≡ None)
 IsOfSeedFile name bytes failure = IsOfReading failure
 
 -- no seed: a number has a seed hash of 0, or a file can't be read or has no seed
@@ -233,7 +233,7 @@ IsOfVisits options seed texts failure = IsOfEitherUnion options seed (images_in 
 
 -- a union of images, of sums or of theta sketches, is refused for memory, for an image that is none, or, if they are
 -- of sums, for a sum of 2^64 or more
-abbrev pub IsOfUniting : (sums : Bool) → (seed : ℕ) → (images : Option (List (List ℕ))) → Unread → Type 0
+abbrev pub IsOfUniting : (sums : Bool) → (seed : ℕ) → (images : Option (List (List ℕ))) → ReadError → Type 0
 IsOfUniting sums seed images (Failed error) = ⊤
 IsOfUniting sums seed images (Refused error) =
     (error ≡ OutOfMemory) ⊎ (((error ≡ Policy) × (sums ≡ true)) ⊎ ((error ≡ InvalidData) × HasNoSketch sums seed images))

@@ -27,8 +27,8 @@ abbrev pub is_followed : (sums : Bool) → List ℕ → Bool
 is_followed sums bytes = option_map_or (λ size. nat_lt size (length bytes)) (length_of sums bytes) false
 
 -- The bytes of an image with nothing behind it. Bytes with something behind an image give no bytes, which can't be read as a sketch.
-abbrev pub alone : (sums : Bool) → List ℕ → List ℕ
-alone sums bytes = if is_followed sums bytes then [] else bytes
+abbrev pub only_image : (sums : Bool) → List ℕ → List ℕ
+only_image sums bytes = if is_followed sums bytes then [] else bytes
 
 -- an image as it is written: its bytes, or a line of their hexadecimal digits
 abbrev pub in_form : (hex : Bool) → (image : List ℕ) → List ℕ
@@ -72,7 +72,7 @@ parts_of hex texts = if hex then images_in_lines texts else texts
 
 -- the images of files, of sums or of theta sketches: a file is one, or has one in each line
 abbrev pub images_of : (sums hex : Bool) → (texts : List (List ℕ)) → List (List ℕ)
-images_of sums hex texts = map (alone sums) (parts_of hex texts)
+images_of sums hex texts = map (only_image sums) (parts_of hex texts)
 
 -- the images in the rest of a file after this many lines
 abbrev pub images_behind : (line : ℕ) → (text : List ℕ) → List (List ℕ)
@@ -112,7 +112,7 @@ abbrev pub remaining_images : {S R : Type 0}
     → (texts : S → Option (List (List ℕ)))
     → Images S R
     → Option (List (List ℕ))
-remaining_images remaining texts images = option_map (map (alone images.sums)) (remaining_parts remaining texts images)
+remaining_images remaining texts images = option_map (map (only_image images.sums)) (remaining_parts remaining texts images)
 
 -- the next image is the first that was left, or the open file has none, and it is closed and the same images are left
 abbrev pub GivesOrCloses : {V R : Type 0} → (V → List ℕ) → (old new : Option (List (List ℕ))) → (open_file : Option R) → Option V → Type 0
@@ -142,8 +142,8 @@ abbrev pub count_of : (sums : Bool) → List ℕ → ℕ
 count_of sums bytes = if sums then sums_count bytes else entry_count bytes
 
 -- nothing follows the image that bytes begin, if they begin one
-abbrev pub IsAlone : (sums : Bool) → List ℕ → Type 0
-IsAlone sums bytes = IfSome (length_of sums bytes) (λ n. length bytes ≤ n)
+abbrev pub IsOnlyImage : (sums : Bool) → List ℕ → Type 0
+IsOnlyImage sums bytes = IfSome (length_of sums bytes) (λ n. length bytes ≤ n)
 
 -- bytes are no image of a sketch of this seed: of sums, or of a theta sketch
 abbrev pub IsNoSketch : (sums : Bool) → (seed : ℕ) → List ℕ → Type 0

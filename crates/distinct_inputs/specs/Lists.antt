@@ -2,8 +2,8 @@
 use Rattle.std.specs.Prelude.{ℕ, ◌≡◌, ◌≢◌, ◌==◌, ◌+◌, ◌-◌, ◌^◌, ◌&&◌, not, min, ⊤, Bool, List, [], ◌∷◌, ◌++◌}
 use Rattle.std.specs.Prelude.{length, if◌then◌else◌, map, String, Vec, string_bytes, IsUtf8}
 use Rattle.std.specs.List.{onto_first, list_any, AllByRecursion}
-use Rattle.distinct_inputs.specs.declared.lists.Unlisted.{Unlisted}
-use Rattle.distinct_inputs.specs.declared.lists.Unlisted.TheVariants.{Name, Memory}
+use Rattle.distinct_inputs.specs.declared.lists.ListError.{ListError}
+use Rattle.distinct_inputs.specs.declared.lists.ListError.TheVariants.{Name, Memory}
 
 -- the names of files, and the texts of files in memory
 abbrev pub names_of : {A : Type 0} → List (String A) → List (List ℕ)
@@ -26,7 +26,7 @@ abbrev pub IsName : List ℕ → Type 0
 IsName text = (text ≢ []) × IsUtf8 text
 
 -- a text after this many others was not put into a list: memory was refused, or it can't be a name
-abbrev pub IsNotPut : (count : ℕ) → List ℕ → Unlisted → Type 0
+abbrev pub IsNotPut : (count : ℕ) → List ℕ → ListError → Type 0
 IsNotPut count text Memory = ⊤
 IsNotPut count text (Name number) = (IsName text → ⊥) × (number ≡ min (count + 1) (2 ^ 64 - 1))
 
@@ -41,6 +41,6 @@ pub record IsFirstUnnamed (number : ℕ) (texts : List (List ℕ)) : Type 0 wher
   pub numbered : number ≡ min (length front + 1) (2 ^ 64 - 1)
 
 -- texts are not read as names: memory was refused, or one can't be a name, of which the first is reported
-abbrev pub IsUnlisted : (texts : List (List ℕ)) → Unlisted → Type 0
-IsUnlisted texts Memory = ⊤
-IsUnlisted texts (Name number) = IsFirstUnnamed number texts
+abbrev pub IsListError : (texts : List (List ℕ)) → ListError → Type 0
+IsListError texts Memory = ⊤
+IsListError texts (Name number) = IsFirstUnnamed number texts

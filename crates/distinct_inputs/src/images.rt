@@ -4,10 +4,10 @@ ghost use Rattle.std.specs.Prelude.{◌≡◌, ◌≤◌, ◌<◌, ◌^◌, ℕ,
 ghost use Rattle.std.specs.Prelude.{IfNone, OnOk, max, nat_lt, if◌then◌else◌, Bool};
 ghost use Rattle.sketch_base.specs.Seed.{seed_hash};
 ghost use Rattle.keys_sketches.specs.Sources.{GivesNext};
-ghost use Rattle.distinct_inputs.specs.Images.{remaining_images, remaining_parts, alone, image_flaw, is_followed};
+ghost use Rattle.distinct_inputs.specs.Images.{remaining_images, remaining_parts, only_image, image_flaw, is_followed};
 ghost use Rattle.distinct_inputs.specs.Images.{length_of, count_of, line_image};
-ghost use Rattle.distinct_inputs.specs.Images.{CountsLine, HasNoSketch, IsAlone, GivesOrCloses, IsSameReader};
-ghost use Rattle.distinct_inputs.specs.Failures.{called, IsOfImages, IsOfReading, NotesNext, ReportsUnreadable};
+ghost use Rattle.distinct_inputs.specs.Images.{CountsLine, HasNoSketch, IsOnlyImage, GivesOrCloses, IsSameReader};
+ghost use Rattle.distinct_inputs.specs.Failures.{display_name, IsOfImages, IsOfReading, NotesNext, ReportsUnreadable};
 ghost use Rattle.distinct_inputs.specs.Failures.{ReportsNoSketch, ReportsPastUnion, UnreadableIf};
 
 use crate::failure::Failure;
@@ -64,9 +64,9 @@ fn is_followed(sums: bool, bytes: &[u8]) -> bool
 
 /// The bytes of an image with nothing behind it. If something is behind it, there are no bytes, which can't be read
 /// as a sketch, since a second image there would be ignored.
-fn alone(alloc: Global, sums: bool, bytes: Vec<u8>) -> Vec<u8>
-    ensures bytes { result.items ≡ alone sums bytes.items }
-    ensures alone { IsAlone sums result.items }
+fn only_image(alloc: Global, sums: bool, bytes: Vec<u8>) -> Vec<u8>
+    ensures bytes { result.items ≡ only_image sums bytes.items }
+    ensures only_image { IsOnlyImage sums result.items }
 {
     if is_followed(sums, bytes.as_slice()) {
         return Vec::new(alloc);
@@ -134,24 +134,24 @@ impl<'a, S: Sources> Images<'a, S> {
 
     /// The name, in messages, of the file that was opened last.
     pub fn name(&self) -> &'a str
-        ensures { result.now ≡ called self.now.inputs.current.now }
+        ensures { result.now ≡ display_name self.now.inputs.current.now }
     {
         self.inputs.name()
     }
 
     /// The failure if the file can't be read.
-    pub fn unreadable(&self, error: io::Error) -> Failure
-        ensures read { ReportsUnreadable (called self.now.inputs.current.now) error result }
+    pub fn read_failure(&self, error: io::Error) -> Failure
+        ensures read { ReportsUnreadable (display_name self.now.inputs.current.now) error result }
         ensures of_reading { IsOfReading result }
         ensures fallible { UnreadableIf S.may_fail result }
     {
-        self.inputs.unreadable(self.alloc, error)
+        self.inputs.read_failure(self.alloc, error)
     }
 
     /// The failure if the file, or its line, isn't an image, or if it has no line: of images of sums or of theta
     /// sketches, each a file or with `hex` a line. What a union leaves of the reader is unspecified, so the caller
     /// says again which.
-    pub fn no_sketch(&self, sums: bool, hex: bool) -> Failure
+    pub fn sketch_failure(&self, sums: bool, hex: bool) -> Failure
         ensures reports { ReportsNoSketch sums hex self.now result }
         ensures of_images { (seed : ℕ) (images : Option (List (List ℕ)))
             → HasNoSketch sums seed images
@@ -176,7 +176,7 @@ impl<'a, S: Sources> Images<'a, S> {
     }
 
     /// The failure if the sum of a key is 2^64 or more with the image that was read last.
-    pub fn past_union(&self) -> Failure
+    pub fn overflow_failure(&self) -> Failure
         ensures reports { ReportsPastUnion self.now result }
         ensures fallible { (may_fail : Bool) → UnreadableIf may_fail result }
     {
@@ -213,7 +213,7 @@ impl<'a, S: Sources> Images<'a, S> {
         ensures most { self.new.most ≡ max self.old.most (count_of self.old.sums image.now) }
         ensures most_name { self.new.most_name.now ≡ (
             if nat_lt self.old.most (count_of self.old.sums image.now)
-            then called self.old.inputs.current.now
+            then display_name self.old.inputs.current.now
             else self.old.most_name.now) }
     {
         self.flaw = Some(flaw_in(self.sums, image, self.seed));
@@ -235,11 +235,11 @@ impl<'a, S: Sources> Images<'a, S> {
         ensures next { IfOk result (GivesNext (λ v. Some v.items)
             (remaining_images S.Source.remaining S.texts self.old)
             (remaining_images S.Source.remaining S.texts self.new)) }
-        ensures alone { IfOk result (λ image. IfSome image (λ v. IsAlone self.old.sums v.items)) }
+        ensures only_image { IfOk result (λ image. IfSome image (λ v. IsOnlyImage self.old.sums v.items)) }
         ensures noted { IfOk result (λ image. IfSome image (λ v. count_of self.old.sums v.items ≤ self.new.most)) }
     {
         match self.next_part()? {
-            Some(part) => Ok(Some(alone(self.alloc, self.sums, part))),
+            Some(part) => Ok(Some(only_image(self.alloc, self.sums, part))),
             None => Ok(None),
         }
     }
@@ -328,13 +328,13 @@ impl<'a, S: Sources> Images<'a, S> {
             return Ok(None);
         }
         self.line = self.line.saturating_add(1);
-        let image = self.spelled(line.as_slice())?;
+        let image = self.image_in_line(line.as_slice())?;
         Ok(Some(image))
     }
 
     /// The bytes that a line spells, whose preamble is noted; no bytes if it spells none. The only error is refused
     /// memory.
-    fn spelled(&mut self, line: &[u8]) -> io::Result<Vec<u8>>
+    fn image_in_line(&mut self, line: &[u8]) -> io::Result<Vec<u8>>
         ensures spelled { IfOk result (λ v. v.items ≡ line_image line.now) }
         ensures same { IsSameReader self.old self.new }
         ensures left { remaining_parts S.Source.remaining S.texts self.new

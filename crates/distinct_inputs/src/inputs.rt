@@ -1,12 +1,12 @@
 //! The files that the program reads.
 ghost use Rattle.std.specs.Prelude.{◌≡◌, Bool, true, false, None, Some, IfOk, IfErr, IfSome, OnOk};
 ghost use Rattle.keys_sketches.specs.Sources.{GivesNext};
-ghost use Rattle.distinct_inputs.specs.Failures.{called, IsOfList, IsOfReading, NotesNext, ReportsUnreadable};
+ghost use Rattle.distinct_inputs.specs.Failures.{display_name, IsOfList, IsOfReading, NotesNext, ReportsUnreadable};
 ghost use Rattle.distinct_inputs.specs.Failures.{UnreadableIf};
 ghost use Rattle.distinct_inputs.specs.Lists.{are_lines, names_in, names_of};
 
 use crate::failure::Failure;
-use crate::lists::{Unlisted, names_in};
+use crate::lists::{ListError, names_in};
 use keys_sketches::{Sources, TextReader};
 use std::alloc::Global;
 use std::fs::File;
@@ -44,8 +44,8 @@ impl TextReader for Input {
 const STANDARD_INPUT: &str = "standard input";
 
 /// The name of a file in messages.
-pub fn called(name: &str) -> &str
-    ensures { result.now ≡ called name.now }
+pub fn display_name(name: &str) -> &str
+    ensures { result.now ≡ display_name name.now }
 {
     if name == "-" { STANDARD_INPUT } else { name }
 }
@@ -140,18 +140,18 @@ impl<'a, S: Sources> Inputs<'a, S> {
 
     /// The name, in messages, of the source that was opened last.
     pub fn name(&self) -> &'a str
-        ensures { result.now ≡ called self.now.current.now }
+        ensures { result.now ≡ display_name self.now.current.now }
     {
-        called(self.current)
+        display_name(self.current)
     }
 
     /// The failure if the source that was opened last can't be read. If no source may fail, only memory was missing.
-    pub fn unreadable(&self, alloc: Global, error: io::Error) -> Failure
-        ensures reports { ReportsUnreadable (called self.now.current.now) error result }
+    pub fn read_failure(&self, alloc: Global, error: io::Error) -> Failure
+        ensures reports { ReportsUnreadable (display_name self.now.current.now) error result }
         ensures of_reading { IsOfReading result }
         ensures fallible { UnreadableIf S.may_fail result }
     {
-        unreadable(alloc, self.current, S::may_fail(), error)
+        read_failure(alloc, self.current, S::may_fail(), error)
     }
 }
 
@@ -184,27 +184,27 @@ impl<'a, S: Sources> Sources for Inputs<'a, S> {
 }
 
 /// The failure if the file of this name can't be read. If none may fail, only memory was missing.
-fn unreadable(alloc: Global, name: &str, may_fail: bool, error: io::Error) -> Failure
-    ensures reports { ReportsUnreadable (called name.now) error result }
+fn read_failure(alloc: Global, name: &str, may_fail: bool, error: io::Error) -> Failure
+    ensures reports { ReportsUnreadable (display_name name.now) error result }
     ensures of_reading { IsOfReading result }
     ensures fallible { UnreadableIf may_fail result }
 {
     if !may_fail {
         return Failure::Memory;
     }
-    match String::from_str(alloc, called(name)) {
+    match String::from_str(alloc, display_name(name)) {
         Ok(name) => Failure::Unreadable(name, error),
         Err(_) => Failure::Memory,
     }
 }
 
 /// The file of this name, opened, or standard input for `-`.
-pub(crate) fn opened(rt: &HostRuntime, name: &str) -> Result<Input, Failure>
+pub(crate) fn open_input(rt: &HostRuntime, name: &str) -> Result<Input, Failure>
     ensures failed { IfErr result IsOfReading }
 {
     match open(rt, name) {
         Ok(input) => Ok(input),
-        Err(error) => Err(unreadable(rt.alloc(), name, true, error)),
+        Err(error) => Err(read_failure(rt.alloc(), name, true, error)),
     }
 }
 
@@ -221,7 +221,7 @@ pub(crate) fn read_whole<R: TextReader>(
     let mut bytes = Vec::new(alloc);
     match reader.read_to_end(&mut bytes) {
         Ok(_) => Ok(bytes),
-        Err(error) => Err(unreadable(alloc, name, R::may_fail(), error)),
+        Err(error) => Err(read_failure(alloc, name, R::may_fail(), error)),
     }
 }
 
@@ -234,22 +234,22 @@ fn are_lines(list: &[u8]) -> bool
 
 /// The names of files in a list, whose bytes these are; the list has this name in messages. A list of lines without a
 /// NUL byte is refused: its names would be read as one.
-fn listed(alloc: Global, name: &str, list: &[u8]) -> Result<Vec<String>, Failure>
+fn names_in_list(alloc: Global, name: &str, list: &[u8]) -> Result<Vec<String>, Failure>
     ensures names { IfOk result (λ v. names_of v.items ≡ names_in list.now) }
     ensures ended { OnOk result (are_lines list.now ≡ false) }
     ensures failed { IfErr result (IsOfList name.now (Some list.now)) }
     ensures fallible { (may_fail : Bool) → IfErr result (UnreadableIf may_fail) }
 {
     if are_lines(list) {
-        return match String::from_str(alloc, called(name)) {
+        return match String::from_str(alloc, display_name(name)) {
             Ok(name) => Err(Failure::NoNul(name)),
             Err(_) => Err(Failure::Memory),
         };
     }
     match names_in(alloc, list) {
         Ok(names) => Ok(names),
-        Err(Unlisted::Memory) => Err(Failure::Memory),
-        Err(Unlisted::Name(number)) => match String::from_str(alloc, called(name)) {
+        Err(ListError::Memory) => Err(Failure::Memory),
+        Err(ListError::Name(number)) => match String::from_str(alloc, display_name(name)) {
             Ok(name) => Err(Failure::NoName(name, number)),
             Err(_) => Err(Failure::Memory),
         },
@@ -269,13 +269,13 @@ pub fn names_from<R: TextReader>(
     ensures fallible { IfErr result (UnreadableIf R.may_fail) }
 {
     let bytes = read_whole(alloc, name, reader)?;
-    listed(alloc, name, bytes.as_slice())
+    names_in_list(alloc, name, bytes.as_slice())
 }
 
 /// The names in a list of files, which a file of this name has, or standard input for `-`.
 pub fn files_in_list(rt: &HostRuntime, list: &str) -> Result<Vec<String>, Failure>
     ensures failed { IfErr result (IsOfList list.now None) }
 {
-    let mut input = opened(rt, list)?;
+    let mut input = open_input(rt, list)?;
     names_from(rt.alloc(), list, &mut input)
 }

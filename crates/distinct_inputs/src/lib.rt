@@ -15,8 +15,8 @@ mod seeds;
 
 pub use failure::{Failure, family_name, out_of_memory};
 pub use images::Images;
-pub use inputs::{Files, Input, Inputs, called, files_in_list, names_from};
-pub use lists::{Unlisted, names_in, texts_of};
-pub use output::{not_written, put};
+pub use inputs::{Files, Input, Inputs, display_name, files_in_list, names_from};
+pub use lists::{ListError, names_in, texts_of};
+pub use output::{put, write_failure};
 pub use remarks::{Coarser, Console, Remark};
 pub use seeds::{seed_from, seed_of};

@@ -17,12 +17,12 @@ pub fn put<W: Write>(alloc: Global, writer: &mut W, name: &str, bytes: &[u8]) ->
 {
     match writer.write_all(bytes) {
         Ok(()) => Ok(()),
-        Err(error) => Err(not_written(alloc, name, error)),
+        Err(error) => Err(write_failure(alloc, name, error)),
     }
 }
 
 /// The failure if the output of this name fails for this reason.
-pub fn not_written(alloc: Global, name: &str, error: io::Error) -> Failure
+pub fn write_failure(alloc: Global, name: &str, error: io::Error) -> Failure
     ensures reports { ReportsNotWritten name.now error result }
     ensures fallible { (may_fail : Bool) → UnreadableIf may_fail result }
 {

@@ -7,7 +7,7 @@ ghost use Rattle.distinct_inputs.specs.Seeds.{seed_in, IsSeedOf};
 ghost use Rattle.distinct_inputs.specs.Failures.{IsOfSeed, IsOfSeedFile, UnreadableIf};
 
 use crate::failure::Failure;
-use crate::inputs::{called, opened, read_whole};
+use crate::inputs::{display_name, open_input, read_whole};
 use distinct_arguments::{Fault, Options, Seed};
 use keys_sketches::TextReader;
 use sketch_base::{ErrorKind, compute_seed_hash};
@@ -52,7 +52,7 @@ pub fn seed_from<R: TextReader>(alloc: Global, name: &str, reader: &mut R) -> Re
     let bytes = read_whole(alloc, name, reader)?;
     match seed_in(bytes.as_slice()) {
         Some(seed) => Ok(seed),
-        None => match String::from_str(alloc, called(name)) {
+        None => match String::from_str(alloc, display_name(name)) {
             Ok(name) => Err(Failure::NoSeed(name)),
             Err(_) => Err(Failure::Memory),
         },
@@ -64,6 +64,6 @@ fn read_seed(rt: &HostRuntime, name: &str) -> Result<u64, Failure>
     ensures seeded { IfOk result (λ seed. seed_hash seed ≢ 0) }
     ensures failed { IfErr result (IsOfSeed (seed_file name.now)) }
 {
-    let mut input = opened(rt, name)?;
+    let mut input = open_input(rt, name)?;
     seed_from(rt.alloc(), name, &mut input)
 }

@@ -72,7 +72,7 @@ fn combine_last<F: SetFamily<A, B>, A: Allocator, B: Allocator>(
     let Some(first) = stack.pop() else {
         return Err(Error::new(ErrorKind::InvalidArgument));
     };
-    let sketch = family.combined(alloc, seed, lg_k, operator, &first, &second)?;
+    let sketch = family.combine(alloc, seed, lg_k, operator, &first, &second)?;
     stack.push(sketch)?;
     Ok(())
 }
@@ -105,7 +105,7 @@ fn run_step<F: SetFamily<A, B>, A: Allocator, B: Allocator>(
             let Some(sketch) = sketches.get(index) else {
                 return Err(Error::new(ErrorKind::InvalidArgument));
             };
-            let same = family.ordered(alloc, seed, sketch)?;
+            let same = family.to_ordered(alloc, seed, sketch)?;
             stack.push(same)?;
             Ok(())
         }

@@ -40,7 +40,7 @@ pub trait SetFamily<A: Allocator, B: Allocator> {
         ensures { result ≡ is_accepted hash (named sketch.now) };
 
     /// The ordered sketch with the value of a sketch that is empty or of this seed. Refused with `OutOfMemory` alone.
-    fn ordered(&self, alloc: A, seed: u64, sketch: &Self::Named) -> Result<Self::Sketch, Error>
+    fn to_ordered(&self, alloc: A, seed: u64, sketch: &Self::Named) -> Result<Self::Sketch, Error>
         requires seeded { seed_refusal seed ≡ None }
         requires accepted { is_accepted (seed_hash seed) (named sketch.now) ≡ true }
         ensures value { IfOk result (λ s.
@@ -49,7 +49,7 @@ pub trait SetFamily<A: Allocator, B: Allocator> {
 
     /// Two sketches of this seed combined, ordered. A union has 2^`lg_k` nominal entries. Refused with `OutOfMemory`,
     /// or with `Policy` if the family refuses to merge two entries of one key below the lesser theta.
-    fn combined(
+    fn combine(
         &self,
         alloc: A,
         seed: u64,

@@ -49,7 +49,7 @@ impl<A: Allocator + Clone + Drop, B: Allocator> SetFamily<A, B> for SumSets {
         sketch.is_empty() || hash == sketch.seed_hash()
     }
 
-    fn ordered(
+    fn to_ordered(
         &self,
         alloc: A,
         seed: u64,
@@ -57,10 +57,10 @@ impl<A: Allocator + Clone + Drop, B: Allocator> SetFamily<A, B> for SumSets {
     ) -> Result<CompactTupleSketch<u64, A>, Error> {
         let mut intersection = new_meet(alloc, seed)?;
         meet_sketch(&mut intersection, sketch)?;
-        met_sketch(&intersection)
+        intersection_sketch(&intersection)
     }
 
-    fn combined(
+    fn combine(
         &self,
         alloc: A,
         seed: u64,
@@ -100,7 +100,7 @@ fn meet_sketch<A: Allocator + Clone, B: Allocator>(
 }
 
 /// The ordered sketch of an intersection that has a value.
-fn met_sketch<A: Allocator + Clone>(
+fn intersection_sketch<A: Allocator + Clone>(
     intersection: &TupleIntersection<DefaultUnionPolicy<u64>, A>,
 ) -> Result<CompactTupleSketch<u64, A>, Error>
     ensures value { (v : Sketch (TupleEntry ℕ))
@@ -174,7 +174,7 @@ fn unite_sketch<A: Allocator + Clone, B: Allocator>(
 }
 
 /// The ordered sketch of a union that has not failed.
-fn united_sketch<A: Allocator + Clone>(
+fn union_sketch<A: Allocator + Clone>(
     union: &TupleUnion<DefaultUnionPolicy<u64>, A>,
 ) -> Result<CompactTupleSketch<u64, A>, Error>
     requires { union.now.state.failed ≡ false }
@@ -202,7 +202,7 @@ fn union_of<A: Allocator + Clone + Drop>(
     let mut union = new_union(alloc, seed, lg_k)?;
     unite_sketch(&mut union, first)?;
     unite_sketch(&mut union, second)?;
-    let sketch = united_sketch(&union)?;
+    let sketch = union_sketch(&union)?;
     Ok(sketch)
 }
 
@@ -222,6 +222,6 @@ fn intersection_of<A: Allocator + Clone + Drop>(
     let mut intersection = new_meet(alloc, seed)?;
     meet_sketch(&mut intersection, first)?;
     meet_sketch(&mut intersection, second)?;
-    let sketch = met_sketch(&intersection)?;
+    let sketch = intersection_sketch(&intersection)?;
     Ok(sketch)
 }

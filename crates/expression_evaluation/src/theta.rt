@@ -45,7 +45,7 @@ impl<A: Allocator + Clone + Drop, B: Allocator> SetFamily<A, B> for ThetaSets {
         sketch.is_empty() || hash == sketch.seed_hash()
     }
 
-    fn ordered(
+    fn to_ordered(
         &self,
         alloc: A,
         seed: u64,
@@ -53,10 +53,10 @@ impl<A: Allocator + Clone + Drop, B: Allocator> SetFamily<A, B> for ThetaSets {
     ) -> Result<CompactThetaSketch<A>, Error> {
         let mut intersection = ThetaIntersection::with_seed(alloc, seed)?;
         meet_sketch(&mut intersection, sketch)?;
-        met_sketch(&intersection)
+        intersection_sketch(&intersection)
     }
 
-    fn combined(
+    fn combine(
         &self,
         alloc: A,
         seed: u64,
@@ -95,7 +95,7 @@ fn meet_sketch<A: Allocator + Clone, B: Allocator>(
 }
 
 /// The ordered sketch of an intersection that has a value.
-fn met_sketch<A: Allocator + Clone>(
+fn intersection_sketch<A: Allocator + Clone>(
     intersection: &ThetaIntersection<A>,
 ) -> Result<CompactThetaSketch<A>, Error>
     ensures value { (v : Sketch ℕ)
@@ -173,5 +173,5 @@ fn intersection_of<A: Allocator + Clone + Drop>(
     let mut intersection = ThetaIntersection::with_seed(alloc, seed)?;
     meet_sketch(&mut intersection, first)?;
     meet_sketch(&mut intersection, second)?;
-    met_sketch(&intersection)
+    intersection_sketch(&intersection)
 }

@@ -16,11 +16,11 @@ use Rattle.keys_groups.specs.Groups.{without_lf}
 use Rattle.keys_groups.specs.Reading.{ReadsLine, ContinuesLines}
 use Rattle.keys_groups.specs.Tabs.{has_tab, behind_tab}
 use Rattle.keys_groups.specs.United.{image_line, image_in, images_in, AreUnitedLines, IsUniting, is_followed, IsFlawed, IsFlawless, AreFlawless, AreAdded}
-use Rattle.keys_groups.specs.United.{IsFirstFlawed, HasFirstFlawed, IsOfLine, IsOfLines, ReportsFirst, IsUnunited}
+use Rattle.keys_groups.specs.United.{IsFirstFlawed, HasFirstFlawed, IsOfLine, IsOfLines, ReportsFirst, IsUniteError}
 use Rattle.keys_groups.specs.declared.united.LineFlaw.{LineFlaw}
 use Rattle.keys_groups.specs.declared.united.LineFlaw.TheVariants.{NoTab, NoHex, NoImage}
-use Rattle.keys_groups.specs.declared.uniting.Ununited.{Ununited}
-use Rattle.keys_groups.specs.declared.uniting.Ununited.TheVariants.{Refused, Failed, Flawed}
+use Rattle.keys_groups.specs.declared.uniting.UniteError.{UniteError}
+use Rattle.keys_groups.specs.declared.uniting.UniteError.TheVariants.{Refused, Failed, Flawed}
 use Rattle.keys_groups.proofs.LinesInGroups.{lines_of_more}
 use Rattle.keys_groups.proofs.WrittenImages.{all_joined}
 
@@ -102,15 +102,15 @@ module _ {A P : Type 0} (seed lg_k : ℕ) where
   }
 
   -- a source fails: so do all
-  pub failed_next : {S : Type 0} (remaining : S → Option (List ℕ)) (groups : BTreeMap (Vec ℕ A) (Union ℕ P)) (old now new : Option (List (List ℕ))) (found : Option S) (source : S) (refusal : Option ErrorKind) (reason : Ununited) → Continues old now (λ taken. AreAdded seed lg_k [] (lines_of_all taken) groups) → GivesNext remaining now new found → found ≡ Some source →
-      refusal ≡ None → IsOfLines reason → ((before : List (List ℕ)) → IsUniting seed lg_k before groups → ReportsFirst seed (option_map lines_of (remaining source)) reason) → IsUnunited seed refusal old reason
+  pub failed_next : {S : Type 0} (remaining : S → Option (List ℕ)) (groups : BTreeMap (Vec ℕ A) (Union ℕ P)) (old now new : Option (List (List ℕ))) (found : Option S) (source : S) (refusal : Option ErrorKind) (reason : UniteError) → Continues old now (λ taken. AreAdded seed lg_k [] (lines_of_all taken) groups) → GivesNext remaining now new found → found ≡ Some source →
+      refusal ≡ None → IsOfLines reason → ((before : List (List ℕ)) → IsUniting seed lg_k before groups → ReportsFirst seed (option_map lines_of (remaining source)) reason) → IsUniteError seed refusal old reason
   failed_next remaining groups old now new found source refusal (Refused kind) so_far next is settled memory first = inr memory
   failed_next remaining groups old now new found source refusal (Failed error) so_far next is settled memory first = settled
   failed_next {S} remaining groups old now new found source refusal (Flawed number flaw) so_far next is settled memory first =
       (settled, first_next number flaw remaining groups old now new source so_far (subst (λ (o : Option S). GivesNext remaining now new o) is next) first)
 
 -- what is reported of the line behind those without a flaw is reported of the first with one
-pub first_at : (seed passed : ℕ) (line : List ℕ) (lines : Option (List (List ℕ))) (reason : Ununited) → IsOfLine seed passed line reason → IfSome lines (IsBehind seed passed line) → ReportsFirst seed lines reason
+pub first_at : (seed passed : ℕ) (line : List ℕ) (lines : Option (List (List ℕ))) (reason : UniteError) → IsOfLine seed passed line reason → IfSome lines (IsBehind seed passed line) → ReportsFirst seed lines reason
 first_at seed passed line lines (Refused kind) is behind = tt
 first_at seed passed line lines (Failed error) is behind = tt
 first_at seed passed line None (Flawed number flaw) is behind = tt

@@ -26,10 +26,10 @@ use Rattle.keys_groups.specs.declared.united.UnitedGroup.{UnitedGroup}
 use Rattle.keys_groups.specs.declared.united.UnitedGroups.{UnitedGroups}
 use Rattle.keys_groups.specs.declared.united.LineFlaw.{LineFlaw}
 use Rattle.keys_groups.specs.declared.united.LineFlaw.TheVariants.{NoTab, NoHex, NoImage}
-use Rattle.keys_groups.specs.declared.united.NotAdded.{NotAdded}
-use Rattle.keys_groups.specs.declared.united.NotAdded.TheVariants.{Memory, Flawed as FlawedLine}
-use Rattle.keys_groups.specs.declared.uniting.Ununited.{Ununited}
-use Rattle.keys_groups.specs.declared.uniting.Ununited.TheVariants.{Refused, Failed, Flawed}
+use Rattle.keys_groups.specs.declared.united.AddError.{AddError}
+use Rattle.keys_groups.specs.declared.united.AddError.TheVariants.{Memory, Flawed as FlawedLine}
+use Rattle.keys_groups.specs.declared.uniting.UniteError.{UniteError}
+use Rattle.keys_groups.specs.declared.uniting.UniteError.TheVariants.{Refused, Failed, Flawed}
 
 -- ---- lines with an image
 
@@ -169,9 +169,9 @@ IsFlawed seed line NoHex = bytes_of_hex (behind_tab line) ≡ None
 IsFlawed seed line (NoImage flaw) = (flaw ≡ flaw_of (seed_hash seed) (image_in line)) × IsNotOneImage seed (image_in line)
 
 -- a line is not added: memory was refused, or it has this flaw
-abbrev pub IsNotAdded : (seed : ℕ) → (line : List ℕ) → NotAdded → Type 0
-IsNotAdded seed line Memory = ⊤
-IsNotAdded seed line (FlawedLine flaw) = IsFlawed seed line flaw
+abbrev pub IsAddError : (seed : ℕ) → (line : List ℕ) → AddError → Type 0
+IsAddError seed line Memory = ⊤
+IsAddError seed line (FlawedLine flaw) = IsFlawed seed line flaw
 
 -- a line has no flaw, and none of these has one
 abbrev pub IsFlawless : (seed : ℕ) → (line : List ℕ) → Type 0
@@ -205,31 +205,31 @@ pub record HasFirstFlawed (seed number : ℕ) (flaw : LineFlaw) (texts : List (L
   pub flawed : IsFirstFlawed seed number flaw (lines_of text)
 
 -- the line after this many others has the flaw that is reported, with its number
-abbrev pub IsOfLine : (seed passed : ℕ) → (line : List ℕ) → Ununited → Type 0
+abbrev pub IsOfLine : (seed passed : ℕ) → (line : List ℕ) → UniteError → Type 0
 IsOfLine seed passed line (Flawed number flaw) = (number ≡ min (passed + 1) (2 ^ 64 - 1)) × IsFlawed seed line flaw
 IsOfLine seed passed line (Refused kind) = ⊤
 IsOfLine seed passed line (Failed error) = ⊤
 
 -- lines are not united: memory was refused, or their source failed, or a line has a flaw
-abbrev pub IsOfLines : Ununited → Type 0
+abbrev pub IsOfLines : UniteError → Type 0
 IsOfLines (Refused kind) = kind ≡ OutOfMemory
 IsOfLines (Failed error) = ⊤
 IsOfLines (Flawed number flaw) = ⊤
 
 -- a text is reported to have failed only if it may fail
-abbrev pub FailsIf : (may_fail : Bool) → Ununited → Type 0
+abbrev pub FailsIf : (may_fail : Bool) → UniteError → Type 0
 FailsIf may_fail (Failed error) = may_fail ≡ true
 FailsIf may_fail (Refused kind) = ⊤
 FailsIf may_fail (Flawed number flaw) = ⊤
 
 -- lines are not united, and this is then the first line with a flaw
-abbrev pub ReportsFirst : (seed : ℕ) → (lines : Option (List (List ℕ))) → Ununited → Type 0
+abbrev pub ReportsFirst : (seed : ℕ) → (lines : Option (List (List ℕ))) → UniteError → Type 0
 ReportsFirst seed lines (Flawed number flaw) = IfSome lines (IsFirstFlawed seed number flaw)
 ReportsFirst seed lines (Refused kind) = ⊤
 ReportsFirst seed lines (Failed error) = ⊤
 
 -- images are not united: a refusal before any is read, refused memory, a failed source, or the first line that has a flaw
-abbrev pub IsUnunited : (seed : ℕ) → Option ErrorKind → (texts : Option (List (List ℕ))) → Ununited → Type 0
-IsUnunited seed refusal texts (Refused kind) = (refusal ≡ Some kind) ⊎ (kind ≡ OutOfMemory)
-IsUnunited seed refusal texts (Failed error) = refusal ≡ None
-IsUnunited seed refusal texts (Flawed number flaw) = (refusal ≡ None) × IfSome texts (HasFirstFlawed seed number flaw)
+abbrev pub IsUniteError : (seed : ℕ) → Option ErrorKind → (texts : Option (List (List ℕ))) → UniteError → Type 0
+IsUniteError seed refusal texts (Refused kind) = (refusal ≡ Some kind) ⊎ (kind ≡ OutOfMemory)
+IsUniteError seed refusal texts (Failed error) = refusal ≡ None
+IsUniteError seed refusal texts (Flawed number flaw) = (refusal ≡ None) × IfSome texts (HasFirstFlawed seed number flaw)

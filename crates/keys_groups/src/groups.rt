@@ -11,7 +11,7 @@ ghost use Rattle.keys_groups.specs.declared.groups.Grouping.{Grouping};
 
 use crate::fields::key_in;
 use keys_lines::{Hashing, Key, line_hash};
-use keys_sketches::finished;
+use keys_sketches::trim_and_compact;
 use sketch_base::Error;
 use std::alloc::Global;
 use std::collections::BTreeMap;
@@ -134,7 +134,7 @@ impl Groups {
             return Ok(None);
         };
         let mut sketch = sketch;
-        let sketch = finished(&mut sketch)?;
+        let sketch = trim_and_compact(&mut sketch)?;
         Ok(Some(Group { name, sketch }))
     }
 }

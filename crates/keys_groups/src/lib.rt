@@ -30,4 +30,4 @@ pub use groups::{Group, Grouping, Groups};
 pub use ranked::{Ranked, ranked_text};
 pub use reading::{GroupWatch, group_sources};
 pub use united::{LineFlaw, UnitedGroup, UnitedGroups, image_line};
-pub use uniting::{Ununited, unite_groups, united_text};
+pub use uniting::{UniteError, unite_groups, united_text};

@@ -10,7 +10,7 @@ ghost use Rattle.keys_groups.specs.Reading.{ReadsLine};
 ghost use Rattle.keys_groups.specs.States.{IsGrouped};
 
 use crate::groups::{Grouping, Groups, check_settings};
-use keys_sketches::{BLOCK, Sources, TextReader, Unread, read_failure};
+use keys_sketches::{BLOCK, ReadError, Sources, TextReader, read_failure};
 use sketch_base::Error;
 use std::alloc::{AllocError, Global};
 use std::io;
@@ -20,7 +20,7 @@ use std::io::{BufRead, BufReader, Read};
 pub trait GroupWatch {
     /// Called after each line, which has `bytes` bytes without its LF, when there are `groups` groups. The numbers
     /// are for display: no clause speaks of them.
-    fn saw_line(&mut self, bytes: usize, groups: usize);
+    fn on_line(&mut self, bytes: usize, groups: usize);
 }
 
 /// A text without the LF at its end, if it has one.
@@ -57,7 +57,7 @@ fn add_lines<R: TextReader + Drop, W: GroupWatch>(
     grouping: Grouping,
     reader: R,
     watch: &mut W,
-) -> Result<(), Unread>
+) -> Result<(), ReadError>
     requires settled { settings_refusal grouping.lg_k MAX_THETA grouping.hashing.seed ≡ None }
     ensures lines { (before : List (List ℕ))
         → IsGrouped grouping before groups.old.map
@@ -68,7 +68,7 @@ fn add_lines<R: TextReader + Drop, W: GroupWatch>(
 {
     let mut buffered = match BufReader::with_capacity(alloc, BLOCK, reader) {
         Ok(buffered) => buffered,
-        Err(_) => return Err(Unread::Refused(Error::from(AllocError))),
+        Err(_) => return Err(ReadError::Refused(Error::from(AllocError))),
     };
     let mut line = Vec::new(alloc);
     'each_line: for _ in 0..u64::MAX {
@@ -76,13 +76,13 @@ fn add_lines<R: TextReader + Drop, W: GroupWatch>(
             Ok(true) => {
                 let bytes = without_lf(line.as_slice());
                 groups.add_line(alloc, grouping, bytes)?;
-                watch.saw_line(bytes.len(), groups.count());
+                watch.on_line(bytes.len(), groups.count());
             }
             Ok(false) => return Ok(()),
             Err(error) => return Err(read_failure(R::may_fail(), error)),
         }
     }
-    Err(Unread::Refused(Error::from(AllocError)))
+    Err(ReadError::Refused(Error::from(AllocError)))
 }
 
 /// The groups of the lines of all texts, each text cut into lines by itself: a last line without an LF isn't joined
@@ -97,7 +97,7 @@ pub fn group_sources<S: Sources, W: GroupWatch>(
     grouping: Grouping,
     sources: &mut S,
     watch: &mut W,
-) -> Result<Groups, Unread>
+) -> Result<Groups, ReadError>
     ensures grouped { IfSome (S.texts sources.old) (λ texts.
         IfOk result (HasGroups grouping (lines_of_all texts))) }
     ensures refused { RefusesRead result (settings_refusal grouping.lg_k MAX_THETA grouping.hashing.seed) }
@@ -114,5 +114,5 @@ pub fn group_sources<S: Sources, W: GroupWatch>(
             Err(error) => return Err(read_failure(S::may_fail(), error)),
         }
     }
-    Err(Unread::Refused(Error::from(AllocError)))
+    Err(ReadError::Refused(Error::from(AllocError)))
 }

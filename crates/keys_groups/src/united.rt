@@ -12,7 +12,7 @@ ghost use Rattle.theta_sketches.specs.Image.{IsReadable};
 ghost use Rattle.keys_groups.specs.Tabs.{has_tab, before_tab, behind_tab};
 ghost use Rattle.keys_groups.specs.United.{image_line, image_in, IsUniting, AreReady, UpdatesUnion, BeginsUnion};
 ghost use Rattle.keys_groups.specs.United.{AreUnited, HasUnions, AreSound, IsNextUnited, is_followed};
-ghost use Rattle.keys_groups.specs.United.{IsNotOneImage, IsNotAdded, IsFlawless};
+ghost use Rattle.keys_groups.specs.United.{IsNotOneImage, IsAddError, IsFlawless};
 
 use crate::tabs::cut_last;
 use keys_sketches::{
@@ -36,18 +36,18 @@ pub enum LineFlaw {
 
 /// Why a line was not added.
 #[derive(Clone, Copy, Debug, PartialEq, Eq)]
-pub(crate) enum NotAdded {
+pub(crate) enum AddError {
     Memory,
     Flawed(LineFlaw),
 }
 
-impl From<AllocError> for NotAdded {
-    ghost use Rattle.keys_groups.specs.declared.united.NotAdded.TheVariants.{Memory};
+impl From<AllocError> for AddError {
+    ghost use Rattle.keys_groups.specs.declared.united.AddError.TheVariants.{Memory};
 
     ghost from_gives = { λ _ reason. reason ≡ Memory };
 
-    fn from(_e: AllocError) -> NotAdded {
-        NotAdded::Memory
+    fn from(_e: AllocError) -> AddError {
+        AddError::Memory
     }
 }
 
@@ -118,19 +118,19 @@ fn is_longer(image: &[u8]) -> bool
 }
 
 /// The name of the group of a line, and the bytes that its digits spell.
-fn parts_of(alloc: Global, line: &[u8]) -> Result<(&[u8], Vec<u8>), NotAdded>
+fn parts_of(alloc: Global, line: &[u8]) -> Result<(&[u8], Vec<u8>), AddError>
     ensures name { IfOk result (λ parts. parts.0.now ≡ before_tab line.now) }
     ensures tab { OnOk result (has_tab line.now ≡ true) }
     ensures digits { IfOk result (λ parts. bytes_of_hex (behind_tab line.now) ≡ Some parts.1.items) }
     ensures image { IfOk result (λ parts. parts.1.items ≡ image_in line.now) }
-    ensures failed { (seed : ℕ) → IfErr result (IsNotAdded seed line.now) }
+    ensures failed { (seed : ℕ) → IfErr result (IsAddError seed line.now) }
 {
     let Some((name, digits)) = cut_last(line) else {
-        return Err(NotAdded::Flawed(LineFlaw::NoTab));
+        return Err(AddError::Flawed(LineFlaw::NoTab));
     };
     match read_hex(alloc, digits)? {
         Some(image) => Ok((name, image)),
-        None => Err(NotAdded::Flawed(LineFlaw::NoHex)),
+        None => Err(AddError::Flawed(LineFlaw::NoHex)),
     }
 }
 
@@ -219,7 +219,7 @@ impl UnitedGroups {
         seed: u64,
         lg_k: u8,
         line: &[u8],
-    ) -> Result<(), NotAdded>
+    ) -> Result<(), AddError>
         requires settled { settings_refusal lg_k MAX_THETA seed ≡ None }
         requires ready { AreReady seed self.old.map }
         ensures uniting { (lines : List (List ℕ))
@@ -230,7 +230,7 @@ impl UnitedGroups {
             → OnOk result (IsFlawless seed line.now) }
         ensures ready { OnOk result (AreReady seed self.new.map) }
         ensures most { OnOk result (self.new.most ≡ max self.old.most (entry_count (image_in line.now))) }
-        ensures failed { IfErr result (IsNotAdded seed line.now) }
+        ensures failed { IfErr result (IsAddError seed line.now) }
     {
         let (name, image) = parts_of(alloc, line)?;
         if is_longer(image.as_slice()) {
@@ -239,7 +239,7 @@ impl UnitedGroups {
         self.most = self.most.max(entry_count(image.as_slice()));
         match self.add_image(alloc, seed, lg_k, name, image.as_slice()) {
             Ok(()) => Ok(()),
-            Err(error) => Err(not_added(seed, image.as_slice(), error)),
+            Err(error) => Err(add_error(seed, image.as_slice(), error)),
         }
     }
 
@@ -281,20 +281,20 @@ impl UnitedGroups {
 }
 
 /// The failure for bytes that are not the image of one sketch.
-fn not_one_image(seed: u64, image: &[u8]) -> NotAdded
-    ensures { (line : List ℕ) → image.now ≡ image_in line → IsNotOneImage seed image.now → IsNotAdded seed line result }
+fn not_one_image(seed: u64, image: &[u8]) -> AddError
+    ensures { (line : List ℕ) → image.now ≡ image_in line → IsNotOneImage seed image.now → IsAddError seed line result }
 {
-    NotAdded::Flawed(LineFlaw::NoImage(flaw_of(image, hash_of_seed(seed))))
+    AddError::Flawed(LineFlaw::NoImage(flaw_of(image, hash_of_seed(seed))))
 }
 
 /// The failure for an image that was not added, by its error.
-fn not_added(seed: u64, image: &[u8], error: Error) -> NotAdded
+fn add_error(seed: u64, image: &[u8], error: Error) -> AddError
     requires { IsRefused error (IsReadable image.now (seed_hash seed)) }
-    ensures { (line : List ℕ) → image.now ≡ image_in line → IsNotAdded seed line result }
+    ensures { (line : List ℕ) → image.now ≡ image_in line → IsAddError seed line result }
 {
     if error.kind() == ErrorKind::InvalidData {
         not_one_image(seed, image)
     } else {
-        NotAdded::Memory
+        AddError::Memory
     }
 }

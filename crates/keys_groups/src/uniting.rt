@@ -5,15 +5,15 @@ ghost use Rattle.core_laws.specs.Refusal.{Refuses};
 ghost use Rattle.core_laws.specs.Settings.{settings_refusal};
 ghost use Rattle.core_laws.specs.declared.TheConstants.{MAX_THETA};
 ghost use Rattle.keys_lines.specs.Lines.{lines_of, lines_of_all};
-ghost use Rattle.keys_groups.specs.United.{IsNotAdded, IsUniting, AreReady, AreAdded, HasUnions, AreSound};
+ghost use Rattle.keys_groups.specs.United.{IsAddError, IsUniting, AreReady, AreAdded, HasUnions, AreSound};
 ghost use Rattle.keys_groups.specs.United.{AreUnited, AreUnitedLines};
-ghost use Rattle.keys_groups.specs.United.{FailsIf, IsOfLine, IsOfLines, ReportsFirst, IsUnunited};
+ghost use Rattle.keys_groups.specs.United.{FailsIf, IsOfLine, IsOfLines, ReportsFirst, IsUniteError};
 ghost use Rattle.keys_groups.specs.United.{AreSketchedTexts, IsSketchedText};
 ghost use Rattle.keys_groups.specs.declared.groups.Grouping.{Grouping};
 
 use crate::laws::groups_unite;
 use crate::reading::{next_line, without_lf};
-use crate::united::{LineFlaw, NotAdded, UnitedGroups, check_union, image_line};
+use crate::united::{AddError, LineFlaw, UnitedGroups, check_union, image_line};
 use keys_sketches::{BLOCK, Sources, TextReader};
 use sketch_base::Error;
 use std::alloc::{AllocError, Global};
@@ -22,7 +22,7 @@ use std::io::BufReader;
 
 /// Why images are not united by groups.
 #[derive(Debug, Drop)]
-pub enum Ununited {
+pub enum UniteError {
     /// Memory was refused (`OutOfMemory`), or an `lg_k` isn't from 4 to 26 or the seed hash is 0 (`InvalidArgument`).
     Refused(Error),
     /// A source failed, or couldn't be opened.
@@ -31,39 +31,39 @@ pub enum Ununited {
     Flawed(u64, LineFlaw),
 }
 
-impl From<Error> for Ununited {
-    ghost use Rattle.keys_groups.specs.declared.uniting.Ununited.TheVariants.{Refused};
+impl From<Error> for UniteError {
+    ghost use Rattle.keys_groups.specs.declared.uniting.UniteError.TheVariants.{Refused};
 
     ghost from_gives = { λ e reason. reason ≡ Refused e };
 
-    fn from(e: Error) -> Ununited {
-        Ununited::Refused(e)
+    fn from(e: Error) -> UniteError {
+        UniteError::Refused(e)
     }
 }
 
 /// Why images are not united, if a read failed with this error. If no read may fail, only memory was missing.
-fn read_failure(may_fail: bool, error: io::Error) -> Ununited
+fn read_failure(may_fail: bool, error: io::Error) -> UniteError
     ensures fallible { FailsIf may_fail result }
     ensures memory { IsOfLines result }
     ensures first { (seed : ℕ) (lines : Option (List (List ℕ))) → ReportsFirst seed lines result }
-    ensures failed { (seed : ℕ) (texts : Option (List (List ℕ))) → IsUnunited seed None texts result }
+    ensures failed { (seed : ℕ) (texts : Option (List (List ℕ))) → IsUniteError seed None texts result }
 {
     if may_fail {
-        Ununited::Failed(error)
+        UniteError::Failed(error)
     } else {
-        Ununited::Refused(Error::from(AllocError))
+        UniteError::Refused(Error::from(AllocError))
     }
 }
 
 /// The failure at the line after this many others.
-fn failure_at(passed: u64, reason: NotAdded) -> Ununited
+fn failure_at(passed: u64, reason: AddError) -> UniteError
     ensures memory { IsOfLines result }
     ensures fallible { (may_fail : Bool) → FailsIf may_fail result }
-    ensures line { (seed : ℕ) (line : List ℕ) → IsNotAdded seed line reason → IsOfLine seed passed line result }
+    ensures line { (seed : ℕ) (line : List ℕ) → IsAddError seed line reason → IsOfLine seed passed line result }
 {
     match reason {
-        NotAdded::Memory => Ununited::Refused(Error::from(AllocError)),
-        NotAdded::Flawed(flaw) => Ununited::Flawed(passed.saturating_add(1), flaw),
+        AddError::Memory => UniteError::Refused(Error::from(AllocError)),
+        AddError::Flawed(flaw) => UniteError::Flawed(passed.saturating_add(1), flaw),
     }
 }
 
@@ -74,7 +74,7 @@ fn add_lines<R: TextReader + Drop>(
     seed: u64,
     lg_k: u8,
     reader: R,
-) -> Result<(), Ununited>
+) -> Result<(), UniteError>
     requires settled { settings_refusal lg_k MAX_THETA seed ≡ None }
     requires ready { AreReady seed groups.old.map }
     ensures lines { (before : List (List ℕ))
@@ -89,7 +89,7 @@ fn add_lines<R: TextReader + Drop>(
 {
     let mut buffered = match BufReader::with_capacity(alloc, BLOCK, reader) {
         Ok(buffered) => buffered,
-        Err(_) => return Err(Ununited::Refused(Error::from(AllocError))),
+        Err(_) => return Err(UniteError::Refused(Error::from(AllocError))),
     };
     let mut line = Vec::new(alloc);
     'each_line: for passed in 0..u64::MAX {
@@ -105,7 +105,7 @@ fn add_lines<R: TextReader + Drop>(
             Err(error) => return Err(read_failure(R::may_fail(), error)),
         }
     }
-    Err(Ununited::Refused(Error::from(AllocError)))
+    Err(UniteError::Refused(Error::from(AllocError)))
 }
 
 /// The groups of the lines of all texts, each with the union of its images: a line has the name of its group, a tab,
@@ -124,11 +124,11 @@ pub fn unite_groups<S: Sources>(
     seed: u64,
     lg_k: u8,
     sources: &mut S,
-) -> Result<UnitedGroups, Ununited>
+) -> Result<UnitedGroups, UniteError>
     ensures united { IfSome (S.texts sources.old) (λ texts. IfOk result (HasUnions seed lg_k (lines_of_all texts))) }
     ensures sound { IfOk result AreSound }
     ensures accepted { OnOk result (settings_refusal lg_k MAX_THETA seed ≡ None) }
-    ensures failed { IfErr result (IsUnunited seed (settings_refusal lg_k MAX_THETA seed) (S.texts sources.old)) }
+    ensures failed { IfErr result (IsUniteError seed (settings_refusal lg_k MAX_THETA seed) (S.texts sources.old)) }
     ensures fallible { IfErr result (FailsIf S.may_fail) }
 {
     check_union(alloc, seed, lg_k)?;
@@ -142,7 +142,7 @@ pub fn unite_groups<S: Sources>(
             Err(error) => return Err(read_failure(S::may_fail(), error)),
         }
     }
-    Err(Ununited::Refused(Error::from(AllocError)))
+    Err(UniteError::Refused(Error::from(AllocError)))
 }
 
 /// The lines of groups, one after another: the name of each, a tab, and the image of its union in hexadecimal digits.

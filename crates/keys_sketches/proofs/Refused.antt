@@ -29,8 +29,8 @@ use Rattle.keys_sketches.specs.Shards.{AreRead, sketches_of_texts, images_of_tex
 use Rattle.keys_sketches.proofs.Compacts.{images_read}
 use Rattle.keys_sketches.proofs.Rereads.{ReadsAgain}
 use Rattle.keys_sketches.proofs.Unions.{size_small, seeded}
-use Rattle.keys_sketches.specs.declared.sketching.Unread.{Unread}
-use Rattle.keys_sketches.specs.declared.sketching.Unread.TheVariants as unread
+use Rattle.keys_sketches.specs.declared.sketching.ReadError.{ReadError}
+use Rattle.keys_sketches.specs.declared.sketching.ReadError.TheVariants as read_error
 use Rattle.keys_sketches.specs.Sources.{GivesNext, Continues, IsFirst}
 use Rattle.keys_sketches.specs.Unions.{IsReady}
 
@@ -172,9 +172,9 @@ fault_refused None F G kind step (inr none) = inr (none.0, step none.1)
 fault_refused (Some other) F G kind step (inr (inl merge)) = inr (inl merge)
 fault_refused (Some other) F G kind step (inr (inr none)) = inr (inr (none.0, step none.1))
 
-pub fault_failed : (refusal : Option ErrorKind) (F G : Type 0) (u : Unread) → (F → G) → IsImageFailure refusal F u → IsImageFailure refusal G u
-fault_failed refusal F G (unread.Refused kind) step refused = fault_refused refusal F G kind step refused
-fault_failed refusal F G (unread.Failed error) step refused = tt
+pub fault_failed : (refusal : Option ErrorKind) (F G : Type 0) (u : ReadError) → (F → G) → IsImageFailure refusal F u → IsImageFailure refusal G u
+fault_failed refusal F G (read_error.Refused kind) step refused = fault_refused refusal F G kind step refused
+fault_failed refusal F G (read_error.Failed error) step refused = tt
 
 -- ---- images of texts
 

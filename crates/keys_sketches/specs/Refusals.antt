@@ -7,25 +7,25 @@ use Rattle.sketch_base.specs.Seed.{seed_hash}
 use Rattle.sketch_base.specs.declared.error.ErrorKind.{ErrorKind}
 use Rattle.sketch_base.specs.declared.error.ErrorKind.TheVariants.{OutOfMemory, InvalidData}
 use Rattle.theta_sketches.specs.Image.{IsReadable}
-use Rattle.keys_sketches.specs.declared.sketching.Unread.{Unread}
-use Rattle.keys_sketches.specs.declared.sketching.Unread.TheVariants.{Refused, Failed}
+use Rattle.keys_sketches.specs.declared.sketching.ReadError.{ReadError}
+use Rattle.keys_sketches.specs.declared.sketching.ReadError.TheVariants.{Refused, Failed}
 
 -- the error is the refusal, if there is one; or memory ran out; or, only if nothing is refused, a source failed
-abbrev pub IsUnread : Option ErrorKind → Unread → Type 0
-IsUnread refusal (Refused kind) = (refusal ≡ Some kind) ⊎ (kind ≡ OutOfMemory)
-IsUnread refusal (Failed error) = refusal ≡ None
+abbrev pub IsReadError : Option ErrorKind → ReadError → Type 0
+IsReadError refusal (Refused kind) = (refusal ≡ Some kind) ⊎ (kind ≡ OutOfMemory)
+IsReadError refusal (Failed error) = refusal ≡ None
 
 -- the result is Ok only if nothing is refused
-abbrev pub RefusesRead : {T : Type 0} → Result T Unread → Option ErrorKind → Type 0
-RefusesRead r refusal = MatchResult r (λ _. refusal ≡ None) (IsUnread refusal)
+abbrev pub RefusesRead : {T : Type 0} → Result T ReadError → Option ErrorKind → Type 0
+RefusesRead r refusal = MatchResult r (λ _. refusal ≡ None) (IsReadError refusal)
 
 -- a text is reported to have failed only if it may fail
-abbrev pub FailsIf : (may_fail : Bool) → Unread → Type 0
+abbrev pub FailsIf : (may_fail : Bool) → ReadError → Type 0
 FailsIf may_fail (Refused kind) = ⊤
 FailsIf may_fail (Failed error) = may_fail ≡ true
 
 -- a failed read was not just interrupted
-abbrev pub IsLasting : Unread → Type 0
+abbrev pub IsLasting : ReadError → Type 0
 IsLasting (Refused kind) = ⊤
 IsLasting (Failed error) = error_kind error ≢ Interrupted
 
@@ -59,12 +59,12 @@ abbrev pub IsImageRefusal : (merge_refusal : Option ErrorKind) → (Fault : Type
 IsImageRefusal merge_refusal Fault kind = (kind ≡ OutOfMemory) ⊎ IsMergeOrFault merge_refusal Fault kind
 
 -- the same, or the image's source failed
-abbrev pub IsImageFailure : (merge_refusal : Option ErrorKind) → (Fault : Type 0) → Unread → Type 0
+abbrev pub IsImageFailure : (merge_refusal : Option ErrorKind) → (Fault : Type 0) → ReadError → Type 0
 IsImageFailure merge_refusal Fault (Refused kind) = IsImageRefusal merge_refusal Fault kind
 IsImageFailure merge_refusal Fault (Failed error) = ⊤
 
 -- images are not united: by a refusal before any is read, or because one is not read
-abbrev pub IsUniteRefusal : (seed : ℕ) → Option ErrorKind → Option (List (List ℕ)) → Unread → Type 0
+abbrev pub IsUniteRefusal : (seed : ℕ) → Option ErrorKind → Option (List (List ℕ)) → ReadError → Type 0
 IsUniteRefusal seed refusal images (Refused kind) =
     (refusal ≡ Some kind)
     ⊎ (kind ≡ OutOfMemory)

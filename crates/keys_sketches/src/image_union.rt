@@ -2,7 +2,7 @@
 ghost use Rattle.std.specs.Prelude.{◌≡◌, ◌++◌, ◌∷◌, ℕ, List, [], IfOk, IfErr, OnOk, IfSome, length};
 ghost use Rattle.keys_sketches.specs.Refusals.{IsImageRefusal, IsImageFailure, HasFault, FailsIf};
 
-use crate::sketching::{Unread, read_failure};
+use crate::sketching::{ReadError, read_failure};
 use crate::sources::{Sources, TextReader};
 use sketch_base::Error;
 use std::alloc::{AllocError, Allocator};
@@ -47,7 +47,7 @@ fn add_reader<U: ImageUnion, B: Allocator + Clone + Drop, R: TextReader>(
     alloc: B,
     seed: u64,
     reader: &mut R,
-) -> Result<(), Unread>
+) -> Result<(), ReadError>
     ensures united { (lg_k : ℕ) (images : List (List ℕ))
         → U.has_united seed lg_k images union.old
         → IfSome (R.remaining reader.old) (λ image.
@@ -76,7 +76,7 @@ pub fn add_images<U: ImageUnion, B: Allocator + Clone + Drop, S: Sources>(
     alloc: B,
     seed: u64,
     sources: &mut S,
-) -> Result<u64, Unread>
+) -> Result<u64, ReadError>
     ensures united { (lg_k : ℕ) (images : List (List ℕ))
         → U.has_united seed lg_k images union.old
         → IfSome (S.texts sources.old) (λ more. OnOk result (U.has_united seed lg_k (images ++ more) union.new)) }
@@ -95,5 +95,5 @@ pub fn add_images<U: ImageUnion, B: Allocator + Clone + Drop, S: Sources>(
             Err(error) => return Err(read_failure(S::may_fail(), error)),
         }
     }
-    Err(Unread::Refused(Error::from(AllocError)))
+    Err(ReadError::Refused(Error::from(AllocError)))
 }

@@ -16,7 +16,7 @@ ghost use Rattle.keys_sketches.specs.Shards.{values_of_sketches};
 ghost use Rattle.keys_sketches.specs.Meeting.{result_or_empty, refusal_of_intersection, refusal_of_difference};
 ghost use Rattle.core_images.specs.Read.{IsRefused};
 
-use crate::sketching::{finished, new_sketch};
+use crate::sketching::{new_sketch, trim_and_compact};
 use core_laws::MIN_LG_K;
 use sketch_base::Error;
 use std::alloc::Allocator;
@@ -80,7 +80,7 @@ fn empty_sketch<A: Allocator + Clone + Drop>(
     ensures refused { seed_refusal seed ≡ None → Refuses result None true }
 {
     let mut sketch = new_sketch(alloc, seed, MIN_LG_K)?;
-    finished(&mut sketch)
+    trim_and_compact(&mut sketch)
 }
 
 /// The result of an intersection of sketches of this seed, ordered; before its first sketch, the sketch of no lines.

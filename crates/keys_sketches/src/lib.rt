@@ -34,7 +34,9 @@ pub use hex::{hex_line, put_byte, read_hex};
 pub use image_union::{ImageUnion, add_images};
 pub use images::{difference, image_of, intersection, read_image};
 pub use pieces::OpenText;
-pub use sketching::{Unread, Watch, add_lines, finished, new_sketch, read_failure, sketch_lines};
+pub use sketching::{
+    ReadError, Watch, add_lines, new_sketch, read_failure, sketch_lines, trim_and_compact,
+};
 pub use sources::{BLOCK, Sources, TextReader, Texts, add_sources, sketch_sources};
 pub use sums_header::{sums_count, sums_flaw_of, sums_length};
 pub use uniting::{United, image_of_texts, unite_images, united_image, views_of};

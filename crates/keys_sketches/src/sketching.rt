@@ -9,7 +9,7 @@ ghost use Rattle.keys_lines.specs.Open.{IsOpen};
 ghost use Rattle.keys_lines.specs.declared.key.Hashing.{Hashing};
 ghost use Rattle.keys_sketches.specs.Keys.{line_state, new_state, with_lines, value_of_lines, sketch_of_value};
 ghost use Rattle.keys_sketches.specs.Taking.{Takes, Leaves, InsertsFirst};
-ghost use Rattle.keys_sketches.specs.Refusals.{RefusesRead, IsUnread, IsLasting, FailsIf};
+ghost use Rattle.keys_sketches.specs.Refusals.{RefusesRead, IsReadError, IsLasting, FailsIf};
 ghost use Rattle.std.specs.IoError.{error_kind};
 ghost use Rattle.std.specs.declared.io.ErrorKind.TheVariants.{Interrupted};
 
@@ -23,7 +23,7 @@ use theta_sketches::{CompactThetaSketch, ThetaSketch, ThetaSketchBuilder};
 
 /// Why lines or images were not read.
 #[derive(Debug, Drop)]
-pub enum Unread {
+pub enum ReadError {
     /// Memory was refused (`OutOfMemory`), an `lg_k` isn't from 4 to 26, the seed hash is 0, or a sketch is of
     /// another seed (`InvalidArgument`), or a source is not an image (`InvalidData`).
     Refused(Error),
@@ -31,37 +31,37 @@ pub enum Unread {
     Failed(io::Error),
 }
 
-impl From<Error> for Unread {
-    ghost use Rattle.keys_sketches.specs.declared.sketching.Unread.TheVariants.{Refused};
+impl From<Error> for ReadError {
+    ghost use Rattle.keys_sketches.specs.declared.sketching.ReadError.TheVariants.{Refused};
 
-    ghost from_gives = { λ e unread. unread ≡ Refused e };
+    ghost from_gives = { λ e read_error. read_error ≡ Refused e };
 
-    fn from(e: Error) -> Unread {
-        Unread::Refused(e)
+    fn from(e: Error) -> ReadError {
+        ReadError::Refused(e)
     }
 }
 
-impl From<AllocError> for Unread {
+impl From<AllocError> for ReadError {
     ghost use Rattle.sketch_base.specs.declared.error.ErrorKind.TheVariants.{OutOfMemory};
-    ghost use Rattle.keys_sketches.specs.declared.sketching.Unread.TheVariants.{Refused};
+    ghost use Rattle.keys_sketches.specs.declared.sketching.ReadError.TheVariants.{Refused};
 
-    ghost from_gives = { λ _ unread. unread ≡ Refused OutOfMemory };
+    ghost from_gives = { λ _ read_error. read_error ≡ Refused OutOfMemory };
 
-    fn from(e: AllocError) -> Unread {
-        Unread::Refused(Error::from(e))
+    fn from(e: AllocError) -> ReadError {
+        ReadError::Refused(Error::from(e))
     }
 }
 
 /// Why a text was not read, if a read failed with this error. If no read may fail, only memory was missing.
-pub fn read_failure(may_fail: bool, error: io::Error) -> Unread
+pub fn read_failure(may_fail: bool, error: io::Error) -> ReadError
     ensures fallible { FailsIf may_fail result }
-    ensures unread { IsUnread None result }
+    ensures read_error { IsReadError None result }
     ensures retried { error_kind error ≢ Interrupted → IsLasting result }
 {
     if may_fail {
-        Unread::Failed(error)
+        ReadError::Failed(error)
     } else {
-        Unread::Refused(Error::from(AllocError))
+        ReadError::Refused(Error::from(AllocError))
     }
 }
 
@@ -70,7 +70,7 @@ pub trait Watch {
     /// Called after each read of `bytes` bytes, from 1 to the block's length, and by `image_of_texts` once for each
     /// text. `lines` lines, from 0 to `bytes`, ended in the bytes and are in the sketch. There is no call for a last
     /// line without an LF. The numbers are for display: no clause speaks of them.
-    fn saw<A: Allocator>(&mut self, bytes: usize, lines: u64, sketch: &ThetaSketch<A>);
+    fn on_read<A: Allocator>(&mut self, bytes: usize, lines: u64, sketch: &ThetaSketch<A>);
 }
 
 /// A new sketch of 2^`lg_k` nominal entries, under this seed. Refused with `InvalidArgument` for an `lg_k` that isn't
@@ -182,7 +182,7 @@ pub fn add_lines<A: Allocator + Clone, R: TextReader, W: Watch>(
     reader: &mut R,
     block: &mut [u8],
     watch: &mut W,
-) -> Result<(), Unread>
+) -> Result<(), ReadError>
     requires room { 0 < length block.old }
     ensures lines { IfSome (R.remaining reader.old) (λ text.
         OnOk result (line_state sketch.new ≡ with_lines hashing (line_state sketch.old) (lines_of text))) }
@@ -200,7 +200,7 @@ pub fn add_lines<A: Allocator + Clone, R: TextReader, W: Watch>(
             }
             Ok(count) => {
                 let lines = take_block(sketch, hashing, &mut last, &block[..count])?;
-                watch.saw(count, lines, sketch);
+                watch.on_read(count, lines, sketch);
             }
             Err(error) => {
                 if error.kind() != ErrorKind::Interrupted {
@@ -209,7 +209,7 @@ pub fn add_lines<A: Allocator + Clone, R: TextReader, W: Watch>(
             }
         }
     }
-    Err(Unread::Refused(Error::from(AllocError)))
+    Err(ReadError::Refused(Error::from(AllocError)))
 }
 
 /// Inserts all lines of a text in memory. Refused only with `OutOfMemory`; then some of the first lines are inserted,
@@ -226,13 +226,13 @@ pub(crate) fn add_text<A: Allocator + Clone, W: Watch>(
 {
     let mut last = OpenLine::new(hashing);
     let lines = take_block(sketch, hashing, &mut last, text)?;
-    watch.saw(text.len(), lines, sketch);
+    watch.on_read(text.len(), lines, sketch);
     take_last(sketch, &last)
 }
 
 /// Trims the sketch, which stays trimmed, and returns its compact form, ordered. Refused only with `OutOfMemory`;
 /// then the sketch may be trimmed already.
-pub fn finished<A: Allocator + Clone>(
+pub fn trim_and_compact<A: Allocator + Clone>(
     sketch: &mut ThetaSketch<A>,
 ) -> Result<CompactThetaSketch<A>, Error>
     ensures sketch { (hashing : Hashing) (lg_k : ℕ) (lines : List (List ℕ))
@@ -258,7 +258,7 @@ pub fn sketch_lines<A: Allocator + Clone + Drop, R: TextReader, W: Watch>(
     reader: &mut R,
     block: &mut [u8],
     watch: &mut W,
-) -> Result<CompactThetaSketch<A>, Unread>
+) -> Result<CompactThetaSketch<A>, ReadError>
     requires room { 0 < length block.old }
     ensures sketch { IfSome (R.remaining reader.old) (λ text.
         IfOk result (λ s. s ≡ sketch_of_value hashing.seed (value_of_lines hashing lg_k (lines_of text)))) }
@@ -269,5 +269,5 @@ pub fn sketch_lines<A: Allocator + Clone + Drop, R: TextReader, W: Watch>(
 {
     let mut sketch = new_sketch(alloc, hashing.seed, lg_k)?;
     add_lines(&mut sketch, hashing, reader, block, watch)?;
-    Ok(finished(&mut sketch)?)
+    Ok(trim_and_compact(&mut sketch)?)
 }

@@ -7,7 +7,7 @@ ghost use Rattle.keys_sketches.specs.Refusals.{RefusesRead, FailsIf};
 ghost use Rattle.core_laws.specs.declared.TheConstants.{MAX_THETA};
 ghost use Rattle.core_laws.specs.Settings.{settings_refusal};
 
-use crate::sketching::{Unread, Watch, add_lines, finished, new_sketch, read_failure};
+use crate::sketching::{ReadError, Watch, add_lines, new_sketch, read_failure, trim_and_compact};
 use keys_lines::Hashing;
 use sketch_base::Error;
 use std::alloc::{AllocError, Allocator, Global};
@@ -130,7 +130,7 @@ fn add_source<A: Allocator + Clone, B: Allocator, R: TextReader, W: Watch>(
     hashing: Hashing,
     reader: &mut R,
     watch: &mut W,
-) -> Result<(), Unread>
+) -> Result<(), ReadError>
     ensures lines { IfSome (R.remaining reader.old) (λ text.
         OnOk result (line_state sketch.new ≡ with_lines hashing (line_state sketch.old) (lines_of text))) }
     ensures refused { RefusesRead result None }
@@ -151,7 +151,7 @@ pub fn add_sources<A: Allocator + Clone, B: Allocator + Clone + Drop, S: Sources
     hashing: Hashing,
     sources: &mut S,
     watch: &mut W,
-) -> Result<(), Unread>
+) -> Result<(), ReadError>
     ensures lines { IfSome (S.texts sources.old) (λ texts.
         OnOk result (line_state sketch.new ≡ with_lines hashing (line_state sketch.old) (lines_of_all texts))) }
     ensures refused { RefusesRead result None }
@@ -166,7 +166,7 @@ pub fn add_sources<A: Allocator + Clone, B: Allocator + Clone + Drop, S: Sources
             Err(error) => return Err(read_failure(S::may_fail(), error)),
         }
     }
-    Err(Unread::Refused(Error::from(AllocError)))
+    Err(ReadError::Refused(Error::from(AllocError)))
 }
 
 /// The sketch of the lines of all texts, each text cut into lines by itself. Refused with `InvalidArgument` only for
@@ -179,7 +179,7 @@ pub fn sketch_sources<A: Allocator + Clone + Drop, S: Sources, W: Watch>(
     lg_k: u8,
     sources: &mut S,
     watch: &mut W,
-) -> Result<CompactThetaSketch<A>, Unread>
+) -> Result<CompactThetaSketch<A>, ReadError>
     ensures sketch { IfSome (S.texts sources.old) (λ texts.
         IfOk result (λ s. s ≡ sketch_of_value hashing.seed (value_of_lines hashing lg_k (lines_of_all texts)))) }
     ensures refused { RefusesRead result (settings_refusal lg_k MAX_THETA hashing.seed) }
@@ -187,5 +187,5 @@ pub fn sketch_sources<A: Allocator + Clone + Drop, S: Sources, W: Watch>(
 {
     let mut sketch = new_sketch(alloc.clone()?, hashing.seed, lg_k)?;
     add_sources(&mut sketch, alloc, hashing, sources, watch)?;
-    Ok(finished(&mut sketch)?)
+    Ok(trim_and_compact(&mut sketch)?)
 }

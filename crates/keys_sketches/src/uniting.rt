@@ -20,7 +20,7 @@ ghost use Rattle.core_laws.specs.Settings.{settings_refusal};
 use crate::batches::{Batch, SketchUnion};
 use crate::image_union::{ImageUnion, add_images};
 use crate::images::{image_of, new_union, read_image};
-use crate::sketching::{Unread, Watch, add_text, finished, new_sketch};
+use crate::sketching::{ReadError, Watch, add_text, new_sketch, trim_and_compact};
 use crate::sources::Sources;
 use keys_lines::Hashing;
 use sketch_base::Error;
@@ -178,7 +178,7 @@ pub fn unite_images<A: Allocator + Clone + Drop, S: Sources>(
     seed: u64,
     lg_k: u8,
     images: &mut S,
-) -> Result<United<A>, Unread>
+) -> Result<United<A>, ReadError>
     ensures united { IfSome (S.texts images.old) (λ all. IfOk result (λ u. IsUnitedImage seed lg_k all u.image.items)) }
     ensures counted { IfSome (S.texts images.old) (λ all. IfOk result (λ u. u.count ≡ length all)) }
     ensures whole { IfSome (S.texts images.old) (λ all.
@@ -212,7 +212,7 @@ fn image_of_text<W: Watch>(
 {
     let mut sketch = new_sketch(alloc, hashing.seed, lg_k)?;
     add_text(&mut sketch, hashing, text, watch)?;
-    let compact = finished(&mut sketch)?;
+    let compact = trim_and_compact(&mut sketch)?;
     image_of(&compact)
 }
 

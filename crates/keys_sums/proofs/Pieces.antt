@@ -18,8 +18,8 @@ use Rattle.keys_sums.specs.Sums.{sum_at, HasAdded}
 use Rattle.keys_sums.specs.Reading.{Ends, HasTaken}
 use Rattle.keys_sums.specs.Refusals.{count_after, LacksNumber, LacksNumberIn, LacksNumberAt, LacksNumberOf, IsPast, IsByPolicy, IsPastIn}
 use Rattle.keys_sums.proofs.Amounts.{sum_append}
-use Rattle.keys_sums.specs.declared.summing.Unsummed.{Unsummed}
-use Rattle.keys_sums.specs.declared.summing.Unsummed.TheVariants.{Refused, Failed, PastGreatest, NotANumber}
+use Rattle.keys_sums.specs.declared.summing.SumError.{SumError}
+use Rattle.keys_sums.specs.declared.summing.SumError.TheVariants.{Refused, Failed, PastGreatest, NotANumber}
 use Rattle.keys_sums.specs.declared.addends.Amount.{Amount}
 use Rattle.keys_sums.specs.declared.addends.OpenAddend.{OpenAddend}
 
@@ -71,7 +71,7 @@ count_from_start (suc more) = ap (λ n. min (n + 1) (2 ^ 64 - 1)) (count_from_st
 -- ---- lines of which one has no number
 
 -- .. behind others
-lacking_behind : (amount : Amount) (m n : ℕ) (front lines all : List (List ℕ)) (u : Unsummed) → front ++ lines ≡ all → n ≡ count_after m (length front) → LacksNumberIn amount n lines u → LacksNumberIn amount m all u
+lacking_behind : (amount : Amount) (m n : ℕ) (front lines all : List (List ℕ)) (u : SumError) → front ++ lines ≡ all → n ≡ count_after m (length front) → LacksNumberIn amount n lines u → LacksNumberIn amount m all u
 lacking_behind amount m n front lines all (NotANumber number) whole counted lacking = record {
   before = front ++ lacking.before;
   line = lacking.line;
@@ -87,7 +87,7 @@ lacking_behind amount m n front lines all (Failed error) whole counted lacking =
 lacking_behind amount m n front lines all (PastGreatest number) whole counted lacking = tt
 
 -- .. by its number in a text
-lacking_at : (amount : Amount) (text : List ℕ) (u : Unsummed) → LacksNumberIn amount 0 (lines_of text) u → LacksNumberAt amount text u
+lacking_at : (amount : Amount) (text : List ℕ) (u : SumError) → LacksNumberIn amount 0 (lines_of text) u → LacksNumberAt amount text u
 lacking_at amount text (NotANumber number) lacking = record {
   before = lacking.before;
   line = lacking.line;
@@ -103,7 +103,7 @@ lacking_at amount text (Failed error) lacking = tt
 lacking_at amount text (PastGreatest number) lacking = tt
 
 -- one of the texts has such a line
-pub lacking_texts : (amount : Amount) (u : Unsummed) (texts : List (List ℕ)) → HasFault (λ text. LacksNumberAt amount text u) texts → LacksNumberOf amount texts u
+pub lacking_texts : (amount : Amount) (u : SumError) (texts : List (List ℕ)) → HasFault (λ text. LacksNumberAt amount text u) texts → LacksNumberOf amount texts u
 lacking_texts amount (NotANumber number) texts fault = fault
 lacking_texts amount (Refused kind) texts fault = tt
 lacking_texts amount (Failed error) texts fault = tt
@@ -116,14 +116,14 @@ past_before hashing amount lines back all whole past =
     let same : sum_at hashing amount (lines ++ back) past.0 ≡ sum_at hashing amount all past.0 = ap (λ (ls : List (List ℕ)). sum_at hashing amount ls past.0) whole in
     (past.0, omega (arith, sum_append hashing amount lines back past.0, same, past.1))
 
-past_among : (hashing : Hashing) (amount : Amount) (lines back all : List (List ℕ)) (u : Unsummed) → lines ++ back ≡ all → IsPastIn hashing amount lines u → IsPastIn hashing amount all u
+past_among : (hashing : Hashing) (amount : Amount) (lines back all : List (List ℕ)) (u : SumError) → lines ++ back ≡ all → IsPastIn hashing amount lines u → IsPastIn hashing amount all u
 past_among hashing amount lines back all (PastGreatest number) whole past = past_before hashing (added_by amount) lines back all whole past
 past_among hashing amount lines back all (Refused kind) whole past = tt
 past_among hashing amount lines back all (Failed error) whole past = tt
 past_among hashing amount lines back all (NotANumber number) whole past = tt
 
 -- what is reported of an addition that the policy refused
-pub past_policy : (hashing : Hashing) (amount : Amount) (lines : List (List ℕ)) (kind : ErrorKind) (u : Unsummed) → IsByPolicy kind u → (kind ≡ Policy → IsPast hashing (added_by amount) lines) → IsPastIn hashing amount lines u
+pub past_policy : (hashing : Hashing) (amount : Amount) (lines : List (List ℕ)) (kind : ErrorKind) (u : SumError) → IsByPolicy kind u → (kind ≡ Policy → IsPast hashing (added_by amount) lines) → IsPastIn hashing amount lines u
 past_policy hashing amount lines kind (PastGreatest number) policy past = past policy
 past_policy hashing amount lines kind (Refused other) policy past = tt
 past_policy hashing amount lines kind (Failed error) policy past = tt
@@ -193,7 +193,7 @@ module _ (hashing : Hashing) (amount : Amount) where
   -- ---- a line that has no number
 
   -- .. is the last of a text
-  pub lacking_end : (text : List ℕ) (u : Unsummed) (r s : Updatable (TupleEntry ℕ)) (last : OpenAddend) (counted : ℕ) (all : HasTaken hashing amount [] text r s last 0 counted) → LacksNumberIn amount counted (lines_after all.left []) u → LacksNumberAt amount text u
+  pub lacking_end : (text : List ℕ) (u : SumError) (r s : Updatable (TupleEntry ℕ)) (last : OpenAddend) (counted : ℕ) (all : HasTaken hashing amount [] text r s last 0 counted) → LacksNumberIn amount counted (lines_after all.left []) u → LacksNumberAt amount text u
   lacking_end text u r s last counted all lacking =
       lacking_at amount text u (lacking_behind amount 0 counted all.ended (lines_after all.left []) (lines_of text) u (whole_text text r s last 0 counted all) all.counts lacking)
 
@@ -209,7 +209,7 @@ module _ (hashing : Hashing) (amount : Amount) where
       ∙ append_assoc was.ended ((was.left ++ line) ∷ []) (lines_after [] (others ++ more))
 
   -- .. is one of the lines that a block ends
-  pub lacking_line : (front taken line others more block : List ℕ) (count counted : ℕ) (u : Unsummed) (r s : Updatable (TupleEntry ℕ)) (last : OpenAddend) (was : HasTaken hashing amount front taken r s last count counted) → Lacks 10 line →
+  pub lacking_line : (front taken line others more block : List ℕ) (count counted : ℕ) (u : SumError) (r s : Updatable (TupleEntry ℕ)) (last : OpenAddend) (was : HasTaken hashing amount front taken r s last count counted) → Lacks 10 line →
       block ≡ taken ++ (line ++ 10 ∷ others) → LacksNumber amount (was.left ++ line) counted u → LacksNumberIn amount count (lines_after front (block ++ more)) u
   lacking_line front taken line others more block count counted (NotANumber number) r s last was lacks parted lacking = record {
     before = was.ended;
@@ -230,7 +230,7 @@ module _ (hashing : Hashing) (amount : Amount) where
       sym (was.ends (block ++ more)) ∙ ap (lines_after []) (sym (append_assoc read block more) ∙ sym parted) ∙ lines_whole text
 
   -- .. is one of the lines of a text whose first bytes are read
-  pub lacking_text : (o new : Option (List ℕ)) (read block : List ℕ) (u : Unsummed) (r s : Updatable (TupleEntry ℕ)) (last : OpenAddend) (counted : ℕ) (was : HasTaken hashing amount [] read r s last 0 counted) → Consumes o new (read ++ block) →
+  pub lacking_text : (o new : Option (List ℕ)) (read block : List ℕ) (u : SumError) (r s : Updatable (TupleEntry ℕ)) (last : OpenAddend) (counted : ℕ) (was : HasTaken hashing amount [] read r s last 0 counted) → Consumes o new (read ++ block) →
       ((more : List ℕ) → LacksNumberIn amount counted (lines_after was.left (block ++ more)) u) → IfSome o (λ text. LacksNumberAt amount text u)
   lacking_text None new read block u r s last counted was consumes lacking = tt
   lacking_text (Some text) None read block u r s last counted was consumes lacking = absurd consumes
@@ -241,7 +241,7 @@ module _ (hashing : Hashing) (amount : Amount) where
   -- ---- a sum of 2^64 or more
 
   -- .. with a line that a block ends
-  pub past_block : (lines : List (List ℕ)) (front taken line others more block : List ℕ) (u : Unsummed) (r s : Updatable (TupleEntry ℕ)) (last : OpenAddend) (count counted : ℕ) (was : HasTaken hashing amount front taken r s last count counted) → Lacks 10 line →
+  pub past_block : (lines : List (List ℕ)) (front taken line others more block : List ℕ) (u : SumError) (r s : Updatable (TupleEntry ℕ)) (last : OpenAddend) (count counted : ℕ) (was : HasTaken hashing amount front taken r s last count counted) → Lacks 10 line →
       block ≡ taken ++ (line ++ 10 ∷ others) → IsPastIn hashing amount ((lines ++ was.ended) ++ (was.left ++ line) ∷ []) u → IsPastIn hashing amount (lines ++ lines_after front (block ++ more)) u
   past_block lines front taken line others more block u r s last count counted was lacks parted past =
       let back : List (List ℕ) = lines_after [] (others ++ more) in
@@ -250,13 +250,13 @@ module _ (hashing : Hashing) (amount : Amount) where
       past
 
   -- .. with the last line of a text
-  pub past_end : (lines : List (List ℕ)) (text : List ℕ) (u : Unsummed) (r s : Updatable (TupleEntry ℕ)) (last : OpenAddend) (count counted : ℕ) (all : HasTaken hashing amount [] text r s last count counted) →
+  pub past_end : (lines : List (List ℕ)) (text : List ℕ) (u : SumError) (r s : Updatable (TupleEntry ℕ)) (last : OpenAddend) (count counted : ℕ) (all : HasTaken hashing amount [] text r s last count counted) →
       IsPastIn hashing amount ((lines ++ all.ended) ++ lines_after all.left []) u → IsPastIn hashing amount (lines ++ lines_of text) u
   past_end lines text u r s last count counted all past =
       subst (λ (ls : List (List ℕ)). IsPastIn hashing amount ls u) (append_assoc lines all.ended (lines_after all.left []) ∙ ap (λ ls. lines ++ ls) (whole_text text r s last count counted all)) past
 
   -- .. with a line of a text whose first bytes are read
-  pub past_text : (lines : List (List ℕ)) (o new : Option (List ℕ)) (read block : List ℕ) (u : Unsummed) (r s : Updatable (TupleEntry ℕ)) (last : OpenAddend) (count counted : ℕ) (was : HasTaken hashing amount [] read r s last count counted) → Consumes o new (read ++ block) →
+  pub past_text : (lines : List (List ℕ)) (o new : Option (List ℕ)) (read block : List ℕ) (u : SumError) (r s : Updatable (TupleEntry ℕ)) (last : OpenAddend) (count counted : ℕ) (was : HasTaken hashing amount [] read r s last count counted) → Consumes o new (read ++ block) →
       ((more : List ℕ) → IsPastIn hashing amount ((lines ++ was.ended) ++ lines_after was.left (block ++ more)) u) → IfSome o (λ text. IsPastIn hashing amount (lines ++ lines_of text) u)
   past_text lines None new read block u r s last count counted was consumes past = tt
   past_text lines (Some text) None read block u r s last count counted was consumes past = absurd consumes
@@ -265,7 +265,7 @@ module _ (hashing : Hashing) (amount : Amount) where
       (append_assoc lines was.ended (lines_after was.left (block ++ more)) ∙ ap (λ ls. lines ++ ls) (text_parted text more read block r s last count counted was consumes)) (past more)
 
   -- .. with a line of the next text
-  pub past_next : {S : Type 0} (lg_k : ℕ) (remaining : S → Option (List ℕ)) (old now new : Option (List (List ℕ))) (o : Option S) (source : S) (u : Unsummed) (s : Updatable (TupleEntry ℕ)) →
+  pub past_next : {S : Type 0} (lg_k : ℕ) (remaining : S → Option (List ℕ)) (old now new : Option (List (List ℕ))) (o : Option S) (source : S) (u : SumError) (s : Updatable (TupleEntry ℕ)) →
       Continues old now (λ taken. HasAdded hashing amount lg_k (lines_of_all taken) s) → GivesNext remaining now new o → o ≡ Some source →
       ((lines : List (List ℕ)) → HasAdded hashing amount lg_k lines s → IfSome (remaining source) (λ text. IsPastIn hashing amount (lines ++ lines_of text) u)) → IfSome old (λ all. IsPastIn hashing amount (lines_of_all all) u)
   past_next lg_k remaining None now new o source u s so_far gives is past = tt

@@ -12,7 +12,7 @@ use Rattle.core_slots.specs.Entry.{tuple_key}
 use Rattle.core_slots.specs.declared.entry.TupleEntry.{TupleEntry}
 use Rattle.keys_sketches.proofs.Refused.{flagged_seed, only_memory}
 use Rattle.keys_sketches.specs.Refusals.{IsMergeError}
-use Rattle.keys_sketches.specs.declared.sketching.Unread.TheVariants as unread
+use Rattle.keys_sketches.specs.declared.sketching.ReadError.TheVariants as read_error
 use Rattle.keys_sums.specs.Images.{ReadsSums}
 use Rattle.keys_sums.specs.Unions.{IsUniteSumsRefusal}
 
@@ -36,6 +36,6 @@ only_memory_refused (Ok v) refused = tt
 only_memory_refused (Err e) refused = inl (only_memory None true e refl refused).0
 
 -- a merge's error is one of a union whose settings are accepted
-pub merge_not_united : (seed : ℕ) (refusal : Option ErrorKind) (images : Option (List (List ℕ))) (kind : ErrorKind) → refusal ≡ None → IsMergeError (Some Policy) kind → IsUniteSumsRefusal seed refusal images (unread.Refused kind)
+pub merge_not_united : (seed : ℕ) (refusal : Option ErrorKind) (images : Option (List (List ℕ))) (kind : ErrorKind) → refusal ≡ None → IsMergeError (Some Policy) kind → IsUniteSumsRefusal seed refusal images (read_error.Refused kind)
 merge_not_united seed refusal images kind none (inl memory) = inr (inl memory)
 merge_not_united seed refusal images kind none (inr is) = let policy : kind ≡ Policy = cc in inr (inr (none, inl policy))

@@ -9,7 +9,7 @@ use Rattle.keys_sums.specs.Refusals.{count_after, IsPastIn}
 use Rattle.keys_sums.specs.Sums.{HasAdded}
 use Rattle.keys_sums.specs.declared.addends.Amount.{Amount}
 use Rattle.keys_sums.specs.declared.addends.OpenAddend.{OpenAddend}
-use Rattle.keys_sums.specs.declared.summing.Unsummed.{Unsummed}
+use Rattle.keys_sums.specs.declared.summing.SumError.{SumError}
 
 -- A piece of a text behind an open line ends these lines and leaves another open line, however the text continues.
 abbrev pub Ends : (front piece : List ℕ) → (ended : List (List ℕ)) → (left : List ℕ) → Type 0
@@ -32,7 +32,7 @@ abbrev pub AddsLines : {T : Type 0}
     → Amount
     → (more : List (List ℕ))
     → (old : Updatable (TupleEntry ℕ))
-    → Result T Unsummed
+    → Result T SumError
     → (new : Updatable (TupleEntry ℕ))
     → Type 0
 AddsLines hashing amount more old result new =
@@ -46,7 +46,7 @@ abbrev pub AddsText : {T : Type 0}
     → Amount
     → Option (List ℕ)
     → (old : Updatable (TupleEntry ℕ))
-    → Result T Unsummed
+    → Result T SumError
     → (new : Updatable (TupleEntry ℕ))
     → Type 0
 AddsText hashing amount known old result new =
@@ -55,14 +55,14 @@ AddsText hashing amount known old result new =
     → IfSome known (λ text. OnOk result (HasAdded hashing amount lg_k (lines ++ lines_of text) new))
 
 -- a call reports a sum to be 2^64 or more only if one of these lines and those that a sketch has is
-abbrev pub ReportsPast : {T : Type 0} → Hashing → Amount → (more : List (List ℕ)) → (old : Updatable (TupleEntry ℕ)) → Result T Unsummed → Type 0
+abbrev pub ReportsPast : {T : Type 0} → Hashing → Amount → (more : List (List ℕ)) → (old : Updatable (TupleEntry ℕ)) → Result T SumError → Type 0
 ReportsPast hashing amount more old result =
     (lg_k : ℕ) (lines : List (List ℕ))
     → HasAdded hashing amount lg_k lines old
     → IfErr result (IsPastIn hashing amount (lines ++ more))
 
 -- .. of the lines of a text, if it is known
-abbrev pub ReportsPastText : {T : Type 0} → Hashing → Amount → Option (List ℕ) → (old : Updatable (TupleEntry ℕ)) → Result T Unsummed → Type 0
+abbrev pub ReportsPastText : {T : Type 0} → Hashing → Amount → Option (List ℕ) → (old : Updatable (TupleEntry ℕ)) → Result T SumError → Type 0
 ReportsPastText hashing amount known old result =
     (lg_k : ℕ) (lines : List (List ℕ))
     → HasAdded hashing amount lg_k lines old

@@ -12,24 +12,24 @@ use Rattle.keys_sums.specs.Amounts.{amount_in, added_by}
 use Rattle.keys_sums.specs.Sums.{sum_at}
 use Rattle.keys_sums.specs.declared.addends.Amount.{Amount}
 use Rattle.keys_sums.specs.declared.addends.Amount.TheVariants.{One}
-use Rattle.keys_sums.specs.declared.summing.Unsummed.{Unsummed}
-use Rattle.keys_sums.specs.declared.summing.Unsummed.TheVariants.{Refused, Failed, PastGreatest, NotANumber}
+use Rattle.keys_sums.specs.declared.summing.SumError.{SumError}
+use Rattle.keys_sums.specs.declared.summing.SumError.TheVariants.{Refused, Failed, PastGreatest, NotANumber}
 
 -- lines are not added: memory ran out, or a sum would be 2^64 or more
 abbrev pub IsAddRefusal : ErrorKind → Type 0
 IsAddRefusal kind = (kind ≡ OutOfMemory) ⊎ (kind ≡ Policy)
 
 -- an error is the refusal, or that memory ran out, or that of a source or of a line, which are read only if nothing is refused
-abbrev pub IsUnsummed : Amount → Option ErrorKind → Unsummed → Type 0
-IsUnsummed amount refusal (Refused kind) = (refusal ≡ Some kind) ⊎ (kind ≡ OutOfMemory)
-IsUnsummed amount refusal (Failed error) = refusal ≡ None
-IsUnsummed amount refusal (PastGreatest line) = refusal ≡ None
-IsUnsummed amount refusal (NotANumber line) = (refusal ≡ None) × (amount ≢ One)
+abbrev pub IsSumError : Amount → Option ErrorKind → SumError → Type 0
+IsSumError amount refusal (Refused kind) = (refusal ≡ Some kind) ⊎ (kind ≡ OutOfMemory)
+IsSumError amount refusal (Failed error) = refusal ≡ None
+IsSumError amount refusal (PastGreatest line) = refusal ≡ None
+IsSumError amount refusal (NotANumber line) = (refusal ≡ None) × (amount ≢ One)
 
 -- a line is reported to have no number only if it has none, and its number is that behind this count of lines
-abbrev pub LacksNumber : Amount → (line : List ℕ) → (count : ℕ) → Unsummed → Type 0
+abbrev pub LacksNumber : Amount → (line : List ℕ) → (count : ℕ) → SumError → Type 0
 LacksNumber amount line count (NotANumber number) = (amount_in amount line ≡ None) × (number ≡ min (count + 1) (2 ^ 64 - 1))
-LacksNumber amount line count unsummed = ⊤
+LacksNumber amount line count sum_error = ⊤
 
 -- a line adds no number
 abbrev pub HasNoNumber : Amount → (line : List ℕ) → Type 0
@@ -50,9 +50,9 @@ pub record HasNoNumberBehind (amount : Amount) (count number : ℕ) (lines : Lis
   pub numbered : number ≡ count_after count (suc (length before))
 
 -- a line is reported to have no number only if it is one of these lines, behind this count of lines, and has none
-abbrev pub LacksNumberIn : Amount → (count : ℕ) → (lines : List (List ℕ)) → Unsummed → Type 0
+abbrev pub LacksNumberIn : Amount → (count : ℕ) → (lines : List (List ℕ)) → SumError → Type 0
 LacksNumberIn amount count lines (NotANumber number) = HasNoNumberBehind amount count number lines
-LacksNumberIn amount count lines unsummed = ⊤
+LacksNumberIn amount count lines sum_error = ⊤
 
 -- the line of this number adds no number; any number above 2^64 - 1 is reported as that
 pub record HasNoNumberAt (amount : Amount) (number : ℕ) (lines : List (List ℕ)) : Type 0 where
@@ -64,39 +64,39 @@ pub record HasNoNumberAt (amount : Amount) (number : ℕ) (lines : List (List �
   pub numbered : number ≡ min (length before + 1) (2 ^ 64 - 1)
 
 -- a line is reported to have no number only if it is the line of its number in a text, and has none
-abbrev pub LacksNumberAt : Amount → (text : List ℕ) → Unsummed → Type 0
+abbrev pub LacksNumberAt : Amount → (text : List ℕ) → SumError → Type 0
 LacksNumberAt amount text (NotANumber number) = HasNoNumberAt amount number (lines_of text)
-LacksNumberAt amount text unsummed = ⊤
+LacksNumberAt amount text sum_error = ⊤
 
 -- .. in one of these texts
-abbrev pub LacksNumberOf : Amount → (texts : List (List ℕ)) → Unsummed → Type 0
+abbrev pub LacksNumberOf : Amount → (texts : List (List ℕ)) → SumError → Type 0
 LacksNumberOf amount texts (NotANumber number) = HasFault (λ text. HasNoNumberAt amount number (lines_of text)) texts
-LacksNumberOf amount texts unsummed = ⊤
+LacksNumberOf amount texts sum_error = ⊤
 
 -- the sum of what the lines of some hash add is 2^64 or more
 abbrev pub IsPast : Hashing → (amount : List ℕ → ℕ) → (lines : List (List ℕ)) → Type 0
 IsPast hashing amount lines = (h : ℕ) × (2 ^ 64 ≤ sum_at hashing amount lines h)
 
 -- a sum is reported to be 2^64 or more only if the policy refused it
-abbrev pub IsByPolicy : ErrorKind → Unsummed → Type 0
+abbrev pub IsByPolicy : ErrorKind → SumError → Type 0
 IsByPolicy kind (PastGreatest number) = kind ≡ Policy
-IsByPolicy kind unsummed = ⊤
+IsByPolicy kind sum_error = ⊤
 
 -- a sum is reported to be 2^64 or more only if a sum of these lines is
-abbrev pub IsPastIn : Hashing → Amount → (lines : List (List ℕ)) → Unsummed → Type 0
+abbrev pub IsPastIn : Hashing → Amount → (lines : List (List ℕ)) → SumError → Type 0
 IsPastIn hashing amount lines (PastGreatest number) = IsPast hashing (added_by amount) lines
-IsPastIn hashing amount lines unsummed = ⊤
+IsPastIn hashing amount lines sum_error = ⊤
 
 -- a text is reported to have failed only if it may fail
-abbrev pub FailsIf : (may_fail : Bool) → Unsummed → Type 0
+abbrev pub FailsIf : (may_fail : Bool) → SumError → Type 0
 FailsIf may_fail (Failed error) = may_fail ≡ true
-FailsIf may_fail unsummed = ⊤
+FailsIf may_fail sum_error = ⊤
 
 -- a failed read was not just interrupted
-abbrev pub IsLastingFailure : Unsummed → Type 0
+abbrev pub IsLastingFailure : SumError → Type 0
 IsLastingFailure (Failed error) = error_kind error ≢ Interrupted
-IsLastingFailure unsummed = ⊤
+IsLastingFailure sum_error = ⊤
 
 -- an Ok comes only if nothing is refused
-abbrev pub RefusesSums : {T : Type 0} → Amount → Result T Unsummed → Option ErrorKind → Type 0
-RefusesSums amount r refusal = MatchResult r (λ _. refusal ≡ None) (IsUnsummed amount refusal)
+abbrev pub RefusesSums : {T : Type 0} → Amount → Result T SumError → Option ErrorKind → Type 0
+RefusesSums amount r refusal = MatchResult r (λ _. refusal ≡ None) (IsSumError amount refusal)

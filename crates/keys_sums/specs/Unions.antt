@@ -17,8 +17,8 @@ use Rattle.keys_lines.specs.Keys.{hashing_of}
 use Rattle.keys_lines.specs.Lines.{lines_of_all}
 use Rattle.keys_lines.specs.declared.key.Key.{Key}
 use Rattle.keys_sketches.specs.Refusals.{HasFault}
-use Rattle.keys_sketches.specs.declared.sketching.Unread.{Unread}
-use Rattle.keys_sketches.specs.declared.sketching.Unread.TheVariants.{Refused, Failed}
+use Rattle.keys_sketches.specs.declared.sketching.ReadError.{ReadError}
+use Rattle.keys_sketches.specs.declared.sketching.ReadError.TheVariants.{Refused, Failed}
 use Rattle.keys_sums.specs.Images.{AreReadSums, AreReadableSums, AreImagesOfTexts, image_of_sums, written_sums}
 use Rattle.keys_sums.specs.Sums.{sketch_of_sums}
 
@@ -78,7 +78,7 @@ abbrev pub HasNoSums : (seed : ℕ) → (texts : List (List ℕ)) → Type 0
 HasNoSums seed texts = HasFault (AreNoSums seed) texts
 
 -- images are not united: by a refusal before any is read, or because one is not added
-abbrev pub IsUniteSumsRefusal : (seed : ℕ) → Option ErrorKind → Option (List (List ℕ)) → Unread → Type 0
+abbrev pub IsUniteSumsRefusal : (seed : ℕ) → Option ErrorKind → Option (List (List ℕ)) → ReadError → Type 0
 IsUniteSumsRefusal seed refusal images (Refused kind) =
     (refusal ≡ Some kind) ⊎ ((kind ≡ OutOfMemory) ⊎ ((refusal ≡ None) × ((kind ≡ Policy) ⊎ ((kind ≡ InvalidData) × IfSome images (HasNoSums seed)))))
 IsUniteSumsRefusal seed refusal images (Failed error) = refusal ≡ None

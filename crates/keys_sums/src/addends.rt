@@ -46,7 +46,7 @@ impl OpenNumber {
     }
 
     /// The digits after a separator: those of the first field are forgotten, if the number is in another one.
-    fn kept(self, before: u32) -> Digits
+    fn digits_after(self, before: u32) -> Digits
         ensures { (separator : ℕ) (front : List ℕ)
             → IsOpenNumber (Field before separator) front self
             → IsRead (key_of (Field before separator) (front ++ separator ∷ [])) result }
@@ -70,7 +70,7 @@ impl OpenNumber {
             self.passed
         };
         OpenNumber {
-            digits: self.kept(before),
+            digits: self.digits_after(before),
             passed,
         }
     }
@@ -111,7 +111,7 @@ impl OpenNumber {
     }
 
     /// The state after bytes of a line.
-    fn extended(self, key: Key, bytes: &[u8]) -> OpenNumber
+    fn with_bytes(self, key: Key, bytes: &[u8]) -> OpenNumber
         ensures { (front : List ℕ)
             → IsOpenNumber key front self
             → IsOpenNumber key (front ++ bytes.now) result }
@@ -153,7 +153,7 @@ impl OpenAddend {
         self.line.extend(bytes);
         match amount {
             Amount::One => {}
-            Amount::Number(key) => self.number = self.number.extended(key, bytes),
+            Amount::Number(key) => self.number = self.number.with_bytes(key, bytes),
         }
     }
 

@@ -32,5 +32,5 @@ pub use bins::{BINS, count_in, greatest_of, greatest_sum, least_of};
 pub use images::{read_sums, sums_image};
 pub use operands::all_sums;
 pub use sources::sum_sources;
-pub use summing::{SumSketch, Unsummed, add_lines, finished, new_sketch};
+pub use summing::{SumError, SumSketch, add_lines, new_sketch, trim_and_compact};
 pub use uniting::{UnionOfSums, union_of_sums, unite_sums};

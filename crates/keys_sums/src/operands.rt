@@ -4,12 +4,12 @@ ghost use Rattle.std.specs.List.{AllByRecursion};
 ghost use Rattle.sketch_base.specs.Seed.{seed_hash};
 ghost use Rattle.core_laws.specs.Refusal.{Refuses};
 ghost use Rattle.keys_sums.specs.Images.{AreReadSums, ReadsSums};
-ghost use Rattle.keys_sums.specs.Operands.{IsUnreadSums};
+ghost use Rattle.keys_sums.specs.Operands.{IsReadSumsError};
 ghost use Rattle.keys_sketches.specs.Refusals.{FailsIf};
 ghost use Rattle.keys_sums.specs.Unions.{AreNoSums, HasNoSums};
 
 use crate::images::read_sums;
-use keys_sketches::{Sources, TextReader, Unread, read_failure};
+use keys_sketches::{ReadError, Sources, TextReader, read_failure};
 use sketch_base::Error;
 use std::alloc::{AllocError, Allocator};
 use tuple_sketches::CompactTupleSketch;
@@ -19,10 +19,10 @@ fn sums_in<A: Allocator + Clone + Drop, R: TextReader>(
     alloc: A,
     seed: u64,
     reader: &mut R,
-) -> Result<CompactTupleSketch<u64, A>, Unread>
+) -> Result<CompactTupleSketch<u64, A>, ReadError>
     ensures reads { IfSome (R.remaining reader.old) (λ image. IfOk result (λ s. ReadsSums image (seed_hash seed) s)) }
     ensures seeded { IfOk result (λ s. s.seed_hash ≡ seed_hash seed) }
-    ensures refused { IfErr result (IsUnreadSums (IfSome (R.remaining reader.old) (AreNoSums seed))) }
+    ensures refused { IfErr result (IsReadSumsError (IfSome (R.remaining reader.old) (AreNoSums seed))) }
     ensures fallible { IfErr result (FailsIf R.may_fail) }
 {
     let mut image = Vec::new(alloc.clone()?);
@@ -52,10 +52,10 @@ pub fn all_sums<A: Allocator + Clone + Drop, S: Sources>(
     alloc: A,
     seed: u64,
     images: &mut S,
-) -> Result<Vec<CompactTupleSketch<u64, A>, A>, Unread>
+) -> Result<Vec<CompactTupleSketch<u64, A>, A>, ReadError>
     ensures read { IfSome (S.texts images.old) (λ all. IfOk result (λ v. AreReadSums seed all v.items)) }
     ensures seeded { IfOk result (λ v. AllByRecursion (λ s. s.seed_hash ≡ seed_hash seed) v.items) }
-    ensures refused { IfErr result (IsUnreadSums (IfSome (S.texts images.old) (HasNoSums seed))) }
+    ensures refused { IfErr result (IsReadSumsError (IfSome (S.texts images.old) (HasNoSums seed))) }
     ensures fallible { IfErr result (FailsIf S.may_fail) }
 {
     let mut sketches = Vec::new(alloc.clone()?);
@@ -69,5 +69,5 @@ pub fn all_sums<A: Allocator + Clone + Drop, S: Sources>(
             Err(error) => return Err(read_failure(S::may_fail(), error)),
         }
     }
-    Err(Unread::Refused(Error::from(AllocError)))
+    Err(ReadError::Refused(Error::from(AllocError)))
 }

@@ -9,7 +9,7 @@ ghost use Rattle.keys_sums.specs.Reading.{AddsText, ReportsPastText};
 ghost use Rattle.keys_sums.specs.Refusals.{FailsIf, IsPastIn, LacksNumberAt, LacksNumberOf, RefusesSums};
 
 use crate::addends::Amount;
-use crate::summing::{SumSketch, Unsummed, add_lines, finished, new_sketch};
+use crate::summing::{SumError, SumSketch, add_lines, new_sketch, trim_and_compact};
 use keys_lines::Hashing;
 use keys_sketches::{BLOCK, Sources, TextReader};
 use sketch_base::Error;
@@ -23,7 +23,7 @@ fn add_source<A: Allocator + Clone, B: Allocator, R: TextReader>(
     hashing: Hashing,
     amount: Amount,
     reader: &mut R,
-) -> Result<(), Unsummed>
+) -> Result<(), SumError>
     ensures added { AddsText hashing amount (R.remaining reader.old) sketch.old.state result sketch.new.state }
     ensures numbered { IfSome (R.remaining reader.old) (λ text. IfErr result (LacksNumberAt amount text)) }
     ensures past { ReportsPastText hashing amount (R.remaining reader.old) sketch.old.state result }
@@ -42,7 +42,7 @@ fn add_sources<A: Allocator + Clone, B: Allocator + Clone + Drop, S: Sources>(
     hashing: Hashing,
     amount: Amount,
     sources: &mut S,
-) -> Result<(), Unsummed>
+) -> Result<(), SumError>
     ensures added { (lg_k : ℕ)
         → HasAdded hashing amount lg_k [] sketch.old.state
         → IfSome (S.texts sources.old) (λ texts.
@@ -62,13 +62,13 @@ fn add_sources<A: Allocator + Clone, B: Allocator + Clone + Drop, S: Sources>(
             Ok(None) => return Ok(()),
             Err(error) => {
                 if S::may_fail() {
-                    return Err(Unsummed::Failed(error));
+                    return Err(SumError::Failed(error));
                 }
-                return Err(Unsummed::Refused(Error::from(AllocError)));
+                return Err(SumError::Refused(Error::from(AllocError)));
             }
         }
     }
-    Err(Unsummed::Refused(Error::from(AllocError)))
+    Err(SumError::Refused(Error::from(AllocError)))
 }
 
 /// The sketch of the lines of all texts, in which each retained hash has the sum of what its lines add, in all texts.
@@ -86,7 +86,7 @@ pub fn sum_sources<A: Allocator + Clone + Drop, S: Sources>(
     amount: Amount,
     lg_k: u8,
     sources: &mut S,
-) -> Result<CompactTupleSketch<u64, A>, Unsummed>
+) -> Result<CompactTupleSketch<u64, A>, SumError>
     ensures sketch { IfSome (S.texts sources.old) (λ texts.
         IfOk result (λ s. s ≡ sketch_of_sums hashing (added_by amount) lg_k (lines_of_all texts))) }
     ensures numbers { IfSome (S.texts sources.old) (λ texts.
@@ -98,5 +98,5 @@ pub fn sum_sources<A: Allocator + Clone + Drop, S: Sources>(
 {
     let mut sketch = new_sketch(alloc.clone()?, hashing.seed, lg_k)?;
     add_sources(&mut sketch, alloc, hashing, amount, sources)?;
-    Ok(finished(&mut sketch)?)
+    Ok(trim_and_compact(&mut sketch)?)
 }

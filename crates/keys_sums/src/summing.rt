@@ -11,7 +11,7 @@ ghost use Rattle.keys_lines.specs.declared.key.Hashing.{Hashing};
 ghost use Rattle.keys_sums.specs.Amounts.{IsOpenAddend};
 ghost use Rattle.keys_sums.specs.Sums.{HasSummed, sketch_of_sums};
 ghost use Rattle.keys_sums.specs.Reading.{HasTaken, AddsLines, AddsText, ReportsPast, ReportsPastText};
-ghost use Rattle.keys_sums.specs.Refusals.{FailsIf, IsAddRefusal, IsByPolicy, IsLastingFailure, IsPast, IsUnsummed};
+ghost use Rattle.keys_sums.specs.Refusals.{FailsIf, IsAddRefusal, IsByPolicy, IsLastingFailure, IsPast, IsSumError};
 ghost use Rattle.keys_sums.specs.Refusals.{LacksNumber, LacksNumberAt, LacksNumberIn, RefusesSums};
 ghost use Rattle.keys_sums.specs.declared.addends.Amount.{Amount};
 
@@ -28,7 +28,7 @@ pub type SumSketch<A = Global> = TupleSketch<DefaultUpdatePolicy<u64>, A>;
 
 /// Why lines were not summed.
 #[derive(Debug, Drop)]
-pub enum Unsummed {
+pub enum SumError {
     /// Memory was refused (`OutOfMemory`), or an `lg_k` isn't from 4 to 26 or the seed hash is 0 (`InvalidArgument`).
     Refused(Error),
     /// A source failed, or couldn't be opened.
@@ -39,24 +39,24 @@ pub enum Unsummed {
     NotANumber(u64),
 }
 
-impl From<Error> for Unsummed {
-    ghost use Rattle.keys_sums.specs.declared.summing.Unsummed.TheVariants.{Refused};
+impl From<Error> for SumError {
+    ghost use Rattle.keys_sums.specs.declared.summing.SumError.TheVariants.{Refused};
 
-    ghost from_gives = { λ e unsummed. unsummed ≡ Refused e };
+    ghost from_gives = { λ e sum_error. sum_error ≡ Refused e };
 
-    fn from(e: Error) -> Unsummed {
-        Unsummed::Refused(e)
+    fn from(e: Error) -> SumError {
+        SumError::Refused(e)
     }
 }
 
-impl From<AllocError> for Unsummed {
+impl From<AllocError> for SumError {
     ghost use Rattle.sketch_base.specs.declared.error.ErrorKind.TheVariants.{OutOfMemory};
-    ghost use Rattle.keys_sums.specs.declared.summing.Unsummed.TheVariants.{Refused};
+    ghost use Rattle.keys_sums.specs.declared.summing.SumError.TheVariants.{Refused};
 
-    ghost from_gives = { λ _ unsummed. unsummed ≡ Refused OutOfMemory };
+    ghost from_gives = { λ _ sum_error. sum_error ≡ Refused OutOfMemory };
 
-    fn from(e: AllocError) -> Unsummed {
-        Unsummed::Refused(Error::from(e))
+    fn from(e: AllocError) -> SumError {
+        SumError::Refused(Error::from(e))
     }
 }
 
@@ -96,18 +96,18 @@ fn add_value<A: Allocator + Clone>(
 }
 
 /// Why the line behind `count` others of its source was not added.
-fn not_added(error: Error, count: u64) -> Unsummed
+fn add_error(error: Error, count: u64) -> SumError
     requires { IsAddRefusal error }
-    ensures unsummed { (amount : Amount) → IsUnsummed amount None result }
+    ensures sum_error { (amount : Amount) → IsSumError amount None result }
     ensures number { (amount : Amount) (line : List ℕ) → LacksNumber amount line count result }
     ensures policy { IsByPolicy error result }
     ensures retried { IsLastingFailure result }
     ensures fallible { (may_fail : Bool) → FailsIf may_fail result }
 {
     if error.kind() == ErrorKind::Policy {
-        Unsummed::PastGreatest(count.saturating_add(1))
+        SumError::PastGreatest(count.saturating_add(1))
     } else {
-        Unsummed::Refused(error)
+        SumError::Refused(error)
     }
 }
 
@@ -117,7 +117,7 @@ fn add_line<A: Allocator + Clone>(
     amount: Amount,
     last: &OpenAddend,
     count: u64,
-) -> Result<(), Unsummed>
+) -> Result<(), SumError>
     ensures added { (hashing : Hashing) (line : List ℕ)
         → IsOpenAddend hashing amount line last.now
         → AddsLines hashing amount (line ∷ []) sketch.old.state result sketch.new.state }
@@ -132,11 +132,11 @@ fn add_line<A: Allocator + Clone>(
     ensures fallible { (may_fail : Bool) → IfErr result (FailsIf may_fail) }
 {
     let Some(value) = last.value(amount) else {
-        return Err(Unsummed::NotANumber(count.saturating_add(1)));
+        return Err(SumError::NotANumber(count.saturating_add(1)));
     };
     match add_value(sketch, last.hash(), value) {
         Ok(()) => Ok(()),
-        Err(error) => Err(not_added(error, count)),
+        Err(error) => Err(add_error(error, count)),
     }
 }
 
@@ -149,7 +149,7 @@ fn take_block<A: Allocator + Clone>(
     last: &mut OpenAddend,
     count: u64,
     block: &[u8],
-) -> Result<u64, Unsummed>
+) -> Result<u64, SumError>
     ensures taken { (front : List ℕ)
         → IsOpenAddend hashing amount front last.old
         → IfOk result (HasTaken hashing amount front block.now sketch.old.state sketch.new.state last.new count) }
@@ -182,7 +182,7 @@ fn take_last<A: Allocator + Clone>(
     amount: Amount,
     last: &OpenAddend,
     count: u64,
-) -> Result<(), Unsummed>
+) -> Result<(), SumError>
     ensures taken { (hashing : Hashing) (front : List ℕ)
         → IsOpenAddend hashing amount front last.now
         → AddsLines hashing amount (lines_after front []) sketch.old.state result sketch.new.state }
@@ -217,7 +217,7 @@ pub fn add_lines<A: Allocator + Clone, R: TextReader>(
     amount: Amount,
     reader: &mut R,
     block: &mut [u8],
-) -> Result<(), Unsummed>
+) -> Result<(), SumError>
     requires room { 0 < length block.old }
     ensures added { AddsText hashing amount (R.remaining reader.old) sketch.old.state result sketch.new.state }
     ensures numbered { IfSome (R.remaining reader.old) (λ text. IfErr result (LacksNumberAt amount text)) }
@@ -241,19 +241,19 @@ pub fn add_lines<A: Allocator + Clone, R: TextReader>(
             Err(error) => {
                 if error.kind() != io::ErrorKind::Interrupted {
                     if R::may_fail() {
-                        return Err(Unsummed::Failed(error));
+                        return Err(SumError::Failed(error));
                     }
-                    return Err(Unsummed::Refused(Error::from(AllocError)));
+                    return Err(SumError::Refused(Error::from(AllocError)));
                 }
             }
         }
     }
-    Err(Unsummed::Refused(Error::from(AllocError)))
+    Err(SumError::Refused(Error::from(AllocError)))
 }
 
 /// Trims the sketch, which stays trimmed, and returns its compact form, ordered. Refused only with `OutOfMemory`;
 /// then the sketch may be trimmed already.
-pub fn finished<A: Allocator + Clone>(
+pub fn trim_and_compact<A: Allocator + Clone>(
     sketch: &mut SumSketch<A>,
 ) -> Result<CompactTupleSketch<u64, A>, Error>
     ensures sketch { (hashing : Hashing) (amount : List ℕ → ℕ) (lg_k : ℕ) (lines : List (List ℕ))

@@ -21,7 +21,7 @@ ghost use Rattle.keys_sums.specs.Unions.{IsUniteSumsRefusal, folds_of_sketches};
 
 use crate::bins::greatest_sum;
 use crate::images::{read_sums, sums_image};
-use keys_sketches::{Batch, SketchUnion, Sources, United, Unread, add_images};
+use keys_sketches::{Batch, ReadError, SketchUnion, Sources, United, add_images};
 use sketch_base::Error;
 use std::alloc::{AllocError, Allocator, Global};
 use tuple_sketches::laws::one_reading;
@@ -181,7 +181,7 @@ pub fn union_of_sums<A: Allocator + Clone + Drop, S: Sources>(
     seed: u64,
     lg_k: u8,
     images: &mut S,
-) -> Result<UnionOfSums<A>, Unread>
+) -> Result<UnionOfSums<A>, ReadError>
     ensures united { IfSome (S.texts images.old) (λ all. IfOk result (λ u. IsUnitedSums seed lg_k all u.sketch)) }
     ensures counted { IfSome (S.texts images.old) (λ all. IfOk result (λ u. u.count ≡ length all)) }
     ensures apart { IfSome (S.texts images.old) (λ all. IfOk result (λ u. AreSumsOfTexts seed lg_k all u.sketch)) }
@@ -205,7 +205,7 @@ pub fn unite_sums<A: Allocator + Clone + Drop, S: Sources>(
     seed: u64,
     lg_k: u8,
     images: &mut S,
-) -> Result<United<A>, Unread>
+) -> Result<United<A>, ReadError>
     ensures united { IfSome (S.texts images.old) (λ all.
         IfOk result (λ u. IsUnitedSumsImage seed lg_k all u.image.items)) }
     ensures counted { IfSome (S.texts images.old) (λ all. IfOk result (λ u. u.count ≡ length all)) }

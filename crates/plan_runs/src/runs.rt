@@ -2,7 +2,7 @@
 ghost use Rattle.std.specs.Prelude.{◌≡◌, IfOk, IfSome};
 ghost use Rattle.std.specs.Io.KnownBytes.{Keeps, IsAtEnd};
 ghost use Rattle.plan_runs.specs.Ending.{Puts, EndsRun, ending_status};
-ghost use Rattle.plan_runs.specs.declared.runs.Unread.TheVariants.{Memory};
+ghost use Rattle.plan_runs.specs.declared.runs.ReadError.TheVariants.{Memory};
 
 use crate::answer::answer;
 use std::alloc::{AllocError, Allocator};
@@ -15,21 +15,21 @@ const READS: u32 = 1 << 24;
 const READ_BYTES: usize = 4096;
 
 /// Why an input was not read to its end.
-enum Unread {
+enum ReadError {
     Memory,
     Failed,
 }
 
-impl From<AllocError> for Unread {
+impl From<AllocError> for ReadError {
     ghost from_gives = { λ _ e. e ≡ Memory };
 
     fn from(_e: AllocError) -> Self {
-        Unread::Memory
+        ReadError::Memory
     }
 }
 
 /// All remaining bytes of a reader.
-fn read_all<A: Allocator, R: Read>(alloc: A, reader: &mut R) -> Result<Vec<u8, A>, Unread>
+fn read_all<A: Allocator, R: Read>(alloc: A, reader: &mut R) -> Result<Vec<u8, A>, ReadError>
     ensures all { IfOk result (λ text. IfSome (R.remaining reader.old) (λ bytes. text.items ≡ bytes)) }
     ensures end { IfOk result (λ _. IsAtEnd (R.remaining reader.new)) }
 {
@@ -41,12 +41,12 @@ fn read_all<A: Allocator, R: Read>(alloc: A, reader: &mut R) -> Result<Vec<u8, A
             Ok(count) => text.extend_from_slice(&buffer[..count])?,
             Err(error) => {
                 if error.kind() != ErrorKind::Interrupted {
-                    return Err(Unread::Failed);
+                    return Err(ReadError::Failed);
                 }
             }
         }
     }
-    Err(Unread::Failed)
+    Err(ReadError::Failed)
 }
 
 /// How a run ended.
@@ -101,8 +101,8 @@ pub fn run<A: Allocator + Clone, R: Read, W: Write>(
     };
     let input = match read_all(own, reader) {
         Ok(input) => input,
-        Err(Unread::Memory) => return put(writer, b"error memory\n", 1),
-        Err(Unread::Failed) => return Ending::NotRead,
+        Err(ReadError::Memory) => return put(writer, b"error memory\n", 1),
+        Err(ReadError::Failed) => return Ending::NotRead,
     };
     match answer(&alloc, input.as_slice()) {
         Ok((status, text)) => put(writer, text.as_bytes(), status),

@@ -1,8 +1,8 @@
 //! Reads that fail while lines are sketched or summed: an interrupted read is made again, and after any other failure
 //! nothing more is read.
 use keys_lines::{Hashing, Key};
-use keys_sketches::{TextReader, Unread, Watch};
-use keys_sums::{Amount, Unsummed};
+use keys_sketches::{ReadError, TextReader, Watch};
+use keys_sums::{Amount, SumError};
 use sketch_base::Error;
 use std::alloc::{Allocator, Global};
 use std::io;
@@ -53,7 +53,7 @@ impl TextReader for FailsOnce {
 struct Quiet {}
 
 impl Watch for Quiet {
-    fn saw<A: Allocator>(&mut self, _bytes: usize, _lines: u64, _sketch: &ThetaSketch<A>) {}
+    fn on_read<A: Allocator>(&mut self, _bytes: usize, _lines: u64, _sketch: &ThetaSketch<A>) {}
 }
 
 /// The error that the lines were read with, if any, how many reads were made, and how many lines were retained.
@@ -72,8 +72,8 @@ fn sketched(alloc: Global, kind: ErrorKind) -> Result<Ended, Error> {
     let made = keys_sketches::add_lines(&mut sketch, LINES, &mut reader, &mut block, &mut Quiet {});
     let error = match made {
         Ok(()) => None,
-        Err(Unread::Failed(error)) => Some(error.kind()),
-        Err(Unread::Refused(error)) => return Err(error),
+        Err(ReadError::Failed(error)) => Some(error.kind()),
+        Err(ReadError::Refused(error)) => return Err(error),
     };
     Ok(Ended {
         error,
@@ -90,8 +90,8 @@ fn summed(alloc: Global, kind: ErrorKind) -> Result<Ended, Error> {
     let made = keys_sums::add_lines(&mut sketch, LINES, Amount::One, &mut reader, &mut block);
     let error = match made {
         Ok(()) => None,
-        Err(Unsummed::Failed(error)) => Some(error.kind()),
-        Err(Unsummed::Refused(error)) => return Err(error),
+        Err(SumError::Failed(error)) => Some(error.kind()),
+        Err(SumError::Refused(error)) => return Err(error),
         Err(_) => Some(ErrorKind::InvalidInput),
     };
     Ok(Ended {

@@ -33,11 +33,11 @@ use theta_sketches::ThetaSketch;
 struct Quiet {}
 
 impl Watch for Quiet {
-    fn saw<A: Allocator>(&mut self, _bytes: usize, _lines: u64, _sketch: &ThetaSketch<A>) {}
+    fn on_read<A: Allocator>(&mut self, _bytes: usize, _lines: u64, _sketch: &ThetaSketch<A>) {}
 }
 
 impl GroupWatch for Quiet {
-    fn saw_line(&mut self, _bytes: usize, _groups: usize) {}
+    fn on_line(&mut self, _bytes: usize, _groups: usize) {}
 }
 
 impl Console for Quiet {

@@ -24,7 +24,7 @@ filled (Err e) P refusal None status (Some x) ok refused is = absurd is.1
 pub returns : goal.returns
 returns c =
     let refusal = settings_refusal c.args.lg_k MAX_THETA c.args.seed in
-    let put = filled c.built.result (IsNewUnion c.args.lg_k c.args.seed) refusal c.owned.result.now.value c.put.result c.put.new.self.value in
+    let put = filled c.build.result (IsNewUnion c.args.lg_k c.args.seed) refusal c.owned.result.now.value c.put.result c.put.new.self.value in
     let same = ap (λ o. o.value) c.owned.ensures.same in
     subst (λ (o : Option SeededUnion). Fills (IsNewUnion c.args.lg_k c.args.seed) (IsSettingsRefusal c.args.lg_k c.args.seed) o c.put.result c.put.new.self.value) same
-    (put c.built.ensures.made c.built.ensures.refused c.put.ensures)
+    (put c.build.ensures.made c.build.ensures.refused c.put.ensures)

@@ -12,6 +12,6 @@ pub returns-in-Ok-Some-clause-failed : goal.returns-in-Ok-Some-clause-failed
 returns-in-Ok-Some-clause-failed g c =
     let old = remaining_images g.S.Source.Read.remaining g.S.Sources.texts c.args.images.now in
     let new = remaining_images g.S.Source.Read.remaining g.S.Sources.texts c.next_image.new.self in
-    c.refused.ensures.of_images c.args.seed old (λ data_is.
+    c.image_failure.ensures.of_images c.args.seed old (λ data_is.
     first_is_none c.args.seed (λ v. v.items) old new c.in-Ok-Some.field-0 c.in-Ok-Some.image c.in-Ok-Some.ensures.next c.in-Ok-Some.field-0-is
     (subst (IsNoSketch false c.args.seed) c.as_slice.ensures.value (refused_is_none c.args.seed c.as_slice.result.now c.in-Err-read_image.error c.in-Err-read_image.ensures.refused data_is)))

@@ -7,7 +7,7 @@ use Rattle.distinct_commands.specs.Answers.{IsUnionOf}
 use Rattle.distinct_inputs.specs.Images.{remaining_images}
 use Rattle.distinct_commands.proofs.NextImages.{both_known}
 use Rattle.distinct_commands.proofs.OnlyMemory.{sized, sums_refused, uniting_refused}
-use Rattle.distinct_commands.proofs.combine.united.Goals as goal
+use Rattle.distinct_commands.proofs.combine.unite.Goals as goal
 
 pub returns-then-options-clause-united : goal.returns-then-options-clause-united
 returns-then-options-clause-united g c =

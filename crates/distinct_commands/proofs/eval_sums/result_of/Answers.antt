@@ -8,8 +8,8 @@ use Rattle.distinct_commands.proofs.OnlyMemory.{sized}
 use Rattle.distinct_commands.proofs.WholeStreams.{evaluation_accepted, merge_alone, merge_refused}
 use Rattle.distinct_commands.proofs.eval_sums.result_of.Goals as goal
 
-pub unevaluated-requires : goal.unevaluated-requires
-unevaluated-requires c =
+pub evaluation_failure-requires : goal.evaluation_failure-requires
+evaluation_failure-requires c =
     let options = c.args.options.now in
     let spelled = c.requires.read in
     let sketches = c.args.sketches.now in
@@ -27,5 +27,5 @@ returns-in-Err-clause-failed c =
     let accepted = evaluation_accepted sum_rules c.args.seed options.lg_k steps sketches spelled.tree (sized options.lg_k c.args.seed options.low options.high c.requires.seed) c.requires.seeded
     (subst (λ (n : ℕ). HasIndicesBelow n spelled.tree) (length-map c.args.expression.now.names.items _ ∙ c.requires.counted) spelled.spelled.within) (c.as_slice-steps.ensures.value ∙ spelled.steps_are) in
     let M : List Step → Type 0 = λ ss. MayRefuse sum_rules options.lg_k (sums_values sketches) ss (Some []) in
-    c.unevaluated.ensures.of_result options.lg_k c.args.expression.now.steps.items sketches
+    c.evaluation_failure.ensures.of_result options.lg_k c.args.expression.now.steps.items sketches
     (λ policy. subst M c.as_slice-steps.ensures.value (merge_refused (sums_refusal c.args.seed options.lg_k steps sketches) (M steps) c.in-Err.error accepted c.in-Err.ensures.refused policy))

@@ -2,7 +2,7 @@ use Rattle.std.proofs.Common.{rules, ◌≡◌, ◌∙◌, true, false, sym, ap,
 use denote.Enum.Bare.{sameb}
 use Rattle.expression_text.specs.contracts.fault.Reason.{the_type}
 use Rattle.expression_text.specs.declared.fault.Reason.TheVariants.{Memory}
-use Rattle.distinct_commands.proofs.expression.unspelled.Goals as goal
+use Rattle.distinct_commands.proofs.expression.syntax_failure.Goals as goal
 
 pub returns-in-Ok : goal.returns-in-Ok
 returns-in-Ok c =

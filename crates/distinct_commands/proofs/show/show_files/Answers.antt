@@ -1,6 +1,6 @@
 use Rattle.std.specs.Prelude.{map, length, string_bytes, IfErr}
 use Rattle.std.proofs.lemmas.Result.{err_from_is_err_and}
-use Rattle.distinct_inputs.specs.Failures.{called, IsOfImages}
+use Rattle.distinct_inputs.specs.Failures.{display_name, IsOfImages}
 use Rattle.std.proofs.Common.{◌≡◌, ℕ, false, List, ◌++◌, sym, ap, subst, ◌∙◌, arith}
 use Rattle.distinct_inputs.specs.Images.{remaining_images}
 use Rattle.distinct_commands.specs.Texts.{shown_text}
@@ -28,8 +28,8 @@ loop-file-preserved g c =
     let others = map (λ name. string_bytes name) c.in-Some.others.now in
     let name = string_bytes c.in-Some.file.now in
     let shown = c.loop-file.shown.items in
-    let line : c.extend_from_slice.new.self.items ≡ shown ++ shown_text (options_of c.args.options.now) (called name) c.in-Some-2.sketch =
-    c.in_ok-extend_from_slice.ensures.items ∙ ap (λ bytes. shown ++ bytes) (c.as_bytes.ensures.value ∙ c.in_ok-text.ensures ∙ ap (λ n. shown_text (options_of c.args.options.now) n c.in-Some-2.sketch) (c.called.ensures ∙ ap called c.as_str.ensures.value)) in
+    let line : c.extend_from_slice.new.self.items ≡ shown ++ shown_text (options_of c.args.options.now) (display_name name) c.in-Some-2.sketch =
+    c.in_ok-extend_from_slice.ensures.items ∙ ap (λ bytes. shown ++ bytes) (c.as_bytes.ensures.value ∙ c.in_ok-text.ensures ∙ ap (λ n. shown_text (options_of c.args.options.now) n c.in-Some-2.sketch) (c.display_name.ensures ∙ ap display_name c.as_str.ensures.value)) in
     record {
       shows = subst (λ (items : List ℕ). ShowsOn (options_of c.args.options.now) c.args.seed old names items new others) (sym line)
           (shows_more (options_of c.args.options.now) c.args.seed old names shown now left name others _ c.in-Some-2.sketch new c.loop-file.invariant.shows (ap (map (λ name. string_bytes name)) c.in-Some.ensures.cases.0) c.in_ok-sketch.ensures.reads c.in-Some-2.is);

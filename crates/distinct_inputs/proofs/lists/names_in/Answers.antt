@@ -2,8 +2,8 @@ use Rattle.std.proofs.Common.{[], ◌∷◌, ◌++◌, sym, ap, subst, ◌∙◌
 use Rattle.std.specs.Prelude.{IfErr}
 use Rattle.std.proofs.lemmas.Bool.Decides.{nat_tests}
 use Rattle.std.proofs.lemmas.Result.{err_from_is_err_and}
-use Rattle.distinct_inputs.specs.Lists.{names_of, names_in, IsUnlisted}
-use Rattle.distinct_inputs.proofs.ListNames.{name_ended, all_named, last_named, named_more, unlisted, rest_named}
+use Rattle.distinct_inputs.specs.Lists.{names_of, names_in, IsListError}
+use Rattle.distinct_inputs.proofs.ListNames.{name_ended, all_named, last_named, named_more, list_error, rest_named}
 use Rattle.distinct_inputs.proofs.lists.names_in.Goals as goal
 
 pub cut_each-preserved : goal.cut_each-preserved
@@ -36,8 +36,8 @@ returns-in_err-put_name-clause-failed c =
     let others = c.in-Some.others.now in
     let parted = c.cut_each.invariant.listed ∙ ap (λ ns. names_of names ++ ns) (ap names_in c.in-Some.ensures.parts ∙ name_ended name others c.in-Some.ensures.lacks) in
     let p = err_from_is_err_and c.from_residual.result c.from_residual.ensures.1 in
-    subst (λ r. IfErr r (IsUnlisted all)) (sym p.1) (subst (IsUnlisted all) (sym p.2)
-    (unlisted names name (names_in others) all c.in_err-put_name.field-0.0 parted c.cut_each.invariant.named c.in_err-put_name.ensures.failed))
+    subst (λ r. IfErr r (IsListError all)) (sym p.1) (subst (IsListError all) (sym p.2)
+    (list_error names name (names_in others) all c.in_err-put_name.field-0.0 parted c.cut_each.invariant.named c.in_err-put_name.ensures.failed))
 
 pub returns-in_err-put_name-2-clause-failed : goal.returns-in_err-put_name-2-clause-failed
 returns-in_err-put_name-2-clause-failed c =
@@ -47,5 +47,5 @@ returns-in_err-put_name-2-clause-failed c =
     let last = rest_named rest c.in_default.ensures.none (grind (arith, nat_tests, c.is_empty.ensures, c.if-is_empty.false)) in
     let parted = c.cut_each.invariant.listed ∙ ap (λ ns. names_of names ++ ns) last in
     let p = err_from_is_err_and c.from_residual-in_err-put_name-2.result c.from_residual-in_err-put_name-2.ensures.1 in
-    subst (λ r. IfErr r (IsUnlisted all)) (sym p.1) (subst (IsUnlisted all) (sym p.2)
-    (unlisted names rest [] all c.in_err-put_name-2.field-0.0 parted c.cut_each.invariant.named c.in_err-put_name-2.ensures.failed))
+    subst (λ r. IfErr r (IsListError all)) (sym p.1) (subst (IsListError all) (sym p.2)
+    (list_error names rest [] all c.in_err-put_name-2.field-0.0 parted c.cut_each.invariant.named c.in_err-put_name-2.ensures.failed))

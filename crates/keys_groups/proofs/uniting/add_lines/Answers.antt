@@ -4,7 +4,7 @@ use Rattle.std.specs.Io.Buffered.{reader_remaining}
 use Rattle.keys_lines.specs.Lines.{lines_of}
 use Rattle.keys_groups.specs.Groups.{without_lf}
 use Rattle.keys_groups.specs.Reading.{ReadsLine}
-use Rattle.keys_groups.specs.United.{IsUniting, AreAdded, IsFlawless, IsNotAdded}
+use Rattle.keys_groups.specs.United.{IsUniting, AreAdded, IsFlawless, IsAddError}
 use Rattle.keys_groups.proofs.ReadInTurn.{begins, continues, ends}
 use Rattle.keys_sketches.proofs.Turns.{if_some}
 use Rattle.keys_groups.proofs.UnitedInTurn.{AreCounted, counted_more, read_behind, first_at}
@@ -70,7 +70,7 @@ returns-in-Err-add_line-clause-first g c = λ before uniting.
     let bytes = c.next_line.new.line.items in
     let line = c.without_lf-bytes.ensures ∙ ap without_lf c.as_slice.ensures.value in
     first_at seed passed (without_lf bytes) (option_map lines_of (g.R.Read.remaining c.args.reader)) c.failure_at.result
-    (c.failure_at.ensures.line seed (without_lf bytes) (subst (λ (text : List ℕ). IsNotAdded seed text c.in-Err-add_line.reason) line c.in-Err-add_line.ensures.failed))
+    (c.failure_at.ensures.line seed (without_lf bytes) (subst (λ (text : List ℕ). IsAddError seed text c.in-Err-add_line.reason) line c.in-Err-add_line.ensures.failed))
     (read_behind seed c.args.lg_k passed before c.each_line.groups.map (g.R.Read.remaining c.args.reader) known left bytes (c.each_line.invariant.counted before uniting)
     (subst (ReadsLine known left bytes) c.in-Ok-true.field-0-test c.in-Ok-true.ensures))
 

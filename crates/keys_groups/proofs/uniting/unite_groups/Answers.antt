@@ -6,7 +6,7 @@ use Rattle.core_laws.specs.Settings.{settings_refusal}
 use Rattle.core_laws.specs.declared.TheConstants.{MAX_THETA}
 use Rattle.keys_lines.specs.Lines.{lines_of, lines_of_all}
 use Rattle.keys_sketches.proofs.Turns.{continues_itself, continues_next, continues_end}
-use Rattle.keys_groups.specs.United.{HasUnions, AreAdded, IsUnunited}
+use Rattle.keys_groups.specs.United.{HasUnions, AreAdded, IsUniteError}
 use Rattle.keys_sketches.proofs.Turns.{if_some}
 use Rattle.keys_groups.proofs.UnitedInTurn.{added_more, failed_next}
 use Rattle.keys_groups.proofs.uniting.unite_groups.Goals as goal
@@ -55,9 +55,9 @@ returns-in_err-add_lines-in-Ok-Some-clause-failed g c =
     let p = err_from_is_err_and result c.from_residual-in_err-add_lines-in-Ok-Some.ensures.1 in
     let failed = failed_next seed c.args.lg_k g.S.Source.Read.remaining c.each_source.groups.map texts (g.S.Sources.texts c.each_source.sources) (g.S.Sources.texts c.next_source.new.self) c.in-Ok-Some.field-0 c.in-Ok-Some.source refusal c.in_err-add_lines-in-Ok-Some.field-0.0
     c.each_source.invariant.added c.in-Ok-Some.ensures c.in-Ok-Some.field-0-is c.in_ok-check_union.ensures.refused c.in_err-add_lines-in-Ok-Some.ensures.memory c.in_err-add_lines-in-Ok-Some.ensures.first in
-    subst (λ r. IfErr r (IsUnunited seed refusal texts)) (sym p.1) (subst (IsUnunited seed refusal texts) (sym p.2) failed)
+    subst (λ r. IfErr r (IsUniteError seed refusal texts)) (sym p.1) (subst (IsUniteError seed refusal texts) (sym p.2) failed)
 
 pub returns-in-Err-clause-failed : goal.returns-in-Err-clause-failed
 returns-in-Err-clause-failed g c =
     let texts = g.S.Sources.texts c.args.sources.now in
-    subst (λ (refusal : Option ErrorKind). IsUnunited c.args.seed refusal texts c.read_failure.result) (sym c.in_ok-check_union.ensures.refused) (c.read_failure.ensures.failed c.args.seed texts)
+    subst (λ (refusal : Option ErrorKind). IsUniteError c.args.seed refusal texts c.read_failure.result) (sym c.in_ok-check_union.ensures.refused) (c.read_failure.ensures.failed c.args.seed texts)

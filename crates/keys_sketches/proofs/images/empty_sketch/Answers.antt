@@ -8,7 +8,7 @@ use Rattle.keys_sketches.proofs.Refused.{least_size, only_memory, refuses_memory
 use Rattle.keys_sketches.proofs.images.empty_sketch.Goals as goal
 
 pub returns-clause-empty : goal.returns-clause-empty
-returns-clause-empty g c = c.finished.ensures.sketch (hashing_of Line c.args.seed) MIN_LG_K [] c.in_ok-sketch.ensures.new
+returns-clause-empty g c = c.trim_and_compact.ensures.sketch (hashing_of Line c.args.seed) MIN_LG_K [] c.in_ok-sketch.ensures.new
 
 pub returns-in_err-sketch-clause-refused : goal.returns-in_err-sketch-clause-refused
 returns-in_err-sketch-clause-refused g c = λ accepted.

@@ -3,7 +3,7 @@ use Rattle.keys_sketches.specs.Keys.{value_of_lines}
 use Rattle.core_state.specs.Updatable.{sketch_value}
 use Rattle.keys_sketches.proofs.Worth.{trimmed_value, trimmed_seed, ordered_result}
 use Rattle.keys_sketches.proofs.Seeding.{answers_seed}
-use Rattle.keys_sketches.proofs.sketching.finished.Goals as goal
+use Rattle.keys_sketches.proofs.sketching.trim_and_compact.Goals as goal
 
 pub returns-clause-sketch : goal.returns-clause-sketch
 returns-clause-sketch g c = λ hashing lg_k lines is.

@@ -7,11 +7,11 @@ use Rattle.core_compact.specs.CompactState.{Compact}
 use Rattle.core_slots.specs.declared.entry.TupleEntry.{TupleEntry}
 use Rattle.keys_sketches.proofs.Turns.{if_any, if_some, continues_itself, continues_next, continues_end}
 use Rattle.keys_sums.specs.Images.{AreReadSums, ReadsSums, ReadsSumsUnder}
-use Rattle.keys_sums.specs.Operands.{IsUnreadSums}
+use Rattle.keys_sums.specs.Operands.{IsReadSumsError}
 use Rattle.keys_sums.specs.Unions.{AreNoSums, HasNoSums}
 use Rattle.keys_sketches.proofs.Refused.{faulty_next}
 use Rattle.keys_sketches.proofs.Unions.{are_read-more}
-use Rattle.keys_sums.proofs.ReadOperands.{seeded_one_more, unread_among, unread_memory}
+use Rattle.keys_sums.proofs.ReadOperands.{seeded_one_more, read_error_among, read_error_memory}
 use Rattle.keys_sums.proofs.operands.all_sums.Goals as goal
 
 pub each_image-init : goal.each_image-init
@@ -49,18 +49,18 @@ returns-in_err-add-in-Ok-Some-clause-read g c =
 pub returns-in_err-add-in-Ok-Some-clause-refused : goal.returns-in_err-add-in-Ok-Some-clause-refused
 returns-in_err-add-in-Ok-Some-clause-refused g c =
     let p = err_from_is_err_and c.from_residual-in_err-add-in-Ok-Some.result c.from_residual-in_err-add-in-Ok-Some.ensures.1 in
-    let unread = IsUnreadSums (IfSome (g.S.Sources.texts c.args.images.now) (HasNoSums c.args.seed)) in
-    subst (λ r. IfErr r unread) (sym p.1) (subst unread (sym p.2) (unread_memory c.in_err-add-in-Ok-Some.field-0.0 c.in_err-add-in-Ok-Some.ensures.refused))
+    let read_error = IsReadSumsError (IfSome (g.S.Sources.texts c.args.images.now) (HasNoSums c.args.seed)) in
+    subst (λ r. IfErr r read_error) (sym p.1) (subst read_error (sym p.2) (read_error_memory c.in_err-add-in-Ok-Some.field-0.0 c.in_err-add-in-Ok-Some.ensures.refused))
 
 pub returns-in_err-sketch-in-Ok-Some-clause-refused : goal.returns-in_err-sketch-in-Ok-Some-clause-refused
 returns-in_err-sketch-in-Ok-Some-clause-refused g c =
     let texts = g.S.Sources.texts c.args.images.now in
     let image = g.S.Source.Read.remaining c.in-Ok-Some.source in
     let p = err_from_is_err_and c.from_residual-in_err-sketch-in-Ok-Some.result c.from_residual-in_err-sketch-in-Ok-Some.ensures.1 in
-    let unread = IsUnreadSums (IfSome texts (HasNoSums c.args.seed)) in
+    let read_error = IsReadSumsError (IfSome texts (HasNoSums c.args.seed)) in
     let step = faulty_next (AreNoSums c.args.seed) g.S.Source.Read.remaining texts (g.S.Sources.texts c.each_image.images) (g.S.Sources.texts c.next_source.new.self) c.in-Ok-Some.field-0 c.in-Ok-Some.source c.each_image.invariant.parted c.in-Ok-Some.ensures c.in-Ok-Some.field-0-is in
-    subst (λ r. IfErr r unread) (sym p.1) (subst unread (sym p.2)
-    (unread_among (IfSome image (AreNoSums c.args.seed)) (IfSome texts (HasNoSums c.args.seed)) c.in_err-sketch-in-Ok-Some.field-0.0 step c.in_err-sketch-in-Ok-Some.ensures.refused))
+    subst (λ r. IfErr r read_error) (sym p.1) (subst read_error (sym p.2)
+    (read_error_among (IfSome image (AreNoSums c.args.seed)) (IfSome texts (HasNoSums c.args.seed)) c.in_err-sketch-in-Ok-Some.field-0.0 step c.in_err-sketch-in-Ok-Some.ensures.refused))
 
 pub returns-in-Err-clause-read : goal.returns-in-Err-clause-read
 returns-in-Err-clause-read g c = if_any (g.S.Sources.texts c.args.images.now)

@@ -10,8 +10,8 @@ use Rattle.keys_sums.proofs.sources.sum_sources.Goals as goal
 
 pub returns-clause-sketch : goal.returns-clause-sketch
 returns-clause-sketch g c =
-    if_some (g.S.Sources.texts c.args.sources.now) (λ texts. HasAdded c.args.hashing c.args.amount c.args.lg_k (lines_of_all texts) c.add_sources.new.sketch.state) (λ texts. c.in_ok-finished.field-0 ≡ sketch_of_sums c.args.hashing (added_by c.args.amount) c.args.lg_k (lines_of_all texts))
-    (λ texts has. c.in_ok-finished.ensures.sketch c.args.hashing (added_by c.args.amount) c.args.lg_k (lines_of_all texts) has.summed)
+    if_some (g.S.Sources.texts c.args.sources.now) (λ texts. HasAdded c.args.hashing c.args.amount c.args.lg_k (lines_of_all texts) c.add_sources.new.sketch.state) (λ texts. c.in_ok-trim_and_compact.field-0 ≡ sketch_of_sums c.args.hashing (added_by c.args.amount) c.args.lg_k (lines_of_all texts))
+    (λ texts has. c.in_ok-trim_and_compact.ensures.sketch c.args.hashing (added_by c.args.amount) c.args.lg_k (lines_of_all texts) has.summed)
     (c.in_ok-add_sources.ensures.added c.args.lg_k (record { summed = c.in_ok-sketch.ensures.new c.args.hashing (added_by c.args.amount) refl; numbers = tt }))
 
 pub returns-clause-numbers : goal.returns-clause-numbers

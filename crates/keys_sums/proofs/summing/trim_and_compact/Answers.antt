@@ -1,5 +1,5 @@
 use Rattle.keys_sums.proofs.Adding.{finished_sums}
-use Rattle.keys_sums.proofs.summing.finished.Goals as goal
+use Rattle.keys_sums.proofs.summing.trim_and_compact.Goals as goal
 
 pub returns-clause-sketch : goal.returns-clause-sketch
 returns-clause-sketch g c = λ hashing amount lg_k lines has.

@@ -6,7 +6,7 @@ use Rattle.expression_evaluation.specs.Values.{sums_value}
 use Rattle.expression_evaluation.specs.Running.{sums_values}
 use Rattle.distinct_arguments.specs.Faults.{options_of}
 use Rattle.distinct_commands.proofs.Evaluated.{sums_evaluated}
-use Rattle.distinct_commands.proofs.job.Job.sums_evaluated.Goals as goal
+use Rattle.distinct_commands.proofs.job.Job.evaluate_sums.Goals as goal
 
 pub returns-clause-evaluated : goal.returns-clause-evaluated
 returns-clause-evaluated g c =

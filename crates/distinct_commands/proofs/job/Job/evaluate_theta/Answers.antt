@@ -5,7 +5,7 @@ use Rattle.expression_evaluation.specs.Values.{hashes_value}
 use Rattle.expression_evaluation.specs.Running.{values_of}
 use Rattle.distinct_arguments.specs.Faults.{options_of}
 use Rattle.distinct_commands.proofs.Evaluated.{evaluated}
-use Rattle.distinct_commands.proofs.job.Job.evaluated.Goals as goal
+use Rattle.distinct_commands.proofs.job.Job.evaluate_theta.Goals as goal
 
 pub returns-clause-evaluated : goal.returns-clause-evaluated
 returns-clause-evaluated g c =

@@ -6,9 +6,9 @@ use Rattle.keys_sketches.proofs.Turns.{if_some}
 use Rattle.keys_sums.specs.Amounts.{added_by}
 use Rattle.core_laws.specs.Settings.{settings_refusal}
 use Rattle.core_laws.specs.declared.TheConstants.{MAX_THETA}
-use Rattle.keys_sums.specs.Refusals.{IsUnsummed, LacksNumberOf, IsPast, IsPastIn}
+use Rattle.keys_sums.specs.Refusals.{IsSumError, LacksNumberOf, IsPast, IsPastIn}
 use Rattle.keys_sums.specs.Sums.{sketch_of_sums}
-use Rattle.keys_sums.specs.declared.summing.Unsummed.{Unsummed}
+use Rattle.keys_sums.specs.declared.summing.SumError.{SumError}
 use Rattle.distinct_arguments.specs.Faults.{options_of}
 use Rattle.distinct_commands.specs.Sums.{sums_of}
 use Rattle.distinct_commands.proofs.job.Job.sums_of.Goals as goal
@@ -24,20 +24,20 @@ returns-in-Err-PastGreatest-clause-failed g c =
     let seed = c.args.self.seed in
     let amount = c.args.amount in
     let texts = g.S.Sources.texts c.args.self.inputs.sources in
-    let past = subst (λ (u : Unsummed). IfSome texts (λ all. IsPastIn (record { key = c.key.result; seed = seed }) amount (lines_of_all all) u)) c.in-Err-PastGreatest.field-0-is c.in-Err-PastGreatest.ensures.past in
-    c.past_greatest.ensures.of_sums options seed amount texts (subst (λ (k : Key). IfSome texts (λ all. IsPast (record { key = k; seed = seed }) (added_by amount) (lines_of_all all))) c.key.ensures past)
+    let past = subst (λ (u : SumError). IfSome texts (λ all. IsPastIn (record { key = c.key.result; seed = seed }) amount (lines_of_all all) u)) c.in-Err-PastGreatest.field-0-is c.in-Err-PastGreatest.ensures.past in
+    c.overflow_failure.ensures.of_sums options seed amount texts (subst (λ (k : Key). IfSome texts (λ all. IsPast (record { key = k; seed = seed }) (added_by amount) (lines_of_all all))) c.key.ensures past)
 
 pub returns-in-Err-NotANumber-clause-failed : goal.returns-in-Err-NotANumber-clause-failed
 returns-in-Err-NotANumber-clause-failed g c =
     let refusal = settings_refusal c.args.self.options.now.lg_k MAX_THETA c.args.self.seed in
     let amount = c.args.amount in
     let texts = g.S.Sources.texts c.args.self.inputs.sources in
-    let is = subst (λ (u : Unsummed). IsUnsummed amount refusal u) c.in-Err-NotANumber.field-0-is c.in-Err-NotANumber.ensures.refused in
-    let lacking = subst (λ (u : Unsummed). IfSome texts (λ all. LacksNumberOf amount all u)) c.in-Err-NotANumber.field-0-is c.in-Err-NotANumber.ensures.numbered in
-    c.not_a_number.ensures.of_sums (options_of c.args.self.options.now) c.args.self.seed amount texts is.1 lacking
+    let is = subst (λ (u : SumError). IsSumError amount refusal u) c.in-Err-NotANumber.field-0-is c.in-Err-NotANumber.ensures.refused in
+    let lacking = subst (λ (u : SumError). IfSome texts (λ all. LacksNumberOf amount all u)) c.in-Err-NotANumber.field-0-is c.in-Err-NotANumber.ensures.numbered in
+    c.number_failure.ensures.of_sums (options_of c.args.self.options.now) c.args.self.seed amount texts is.1 lacking
 
 pub returns-in-Err-PastGreatest-clause-fallible : goal.returns-in-Err-PastGreatest-clause-fallible
-returns-in-Err-PastGreatest-clause-fallible g c = c.past_greatest.ensures.fallible g.S.Sources.may_fail
+returns-in-Err-PastGreatest-clause-fallible g c = c.overflow_failure.ensures.fallible g.S.Sources.may_fail
 
 pub returns-in-Err-NotANumber-clause-fallible : goal.returns-in-Err-NotANumber-clause-fallible
-returns-in-Err-NotANumber-clause-fallible g c = c.not_a_number.ensures.fallible g.S.Sources.may_fail
+returns-in-Err-NotANumber-clause-fallible g c = c.number_failure.ensures.fallible g.S.Sources.may_fail

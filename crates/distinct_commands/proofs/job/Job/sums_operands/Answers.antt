@@ -23,8 +23,8 @@ returns-clause-failed g c =
     let images = c.of-images.result in
     let hex = c.args.self.options.now.hex in
     let seed = c.args.self.seed in
-    let f = c.refused.result in
+    let f = c.image_failure.result in
     let left = remaining_images g.S.Source.Read.remaining g.S.Sources.texts images in
     subst (λ inputs. IsOfImages true hex seed (option_map (images_of true hex) (g.S.Sources.texts inputs.sources)) f) c.of-images.ensures.inputs
     (subst (λ all. IsOfImages true hex seed all f) (all_images g.S.Source.Read.remaining g.S.Sources.texts images true hex c.of-images.ensures.sums c.of-images.ensures.hex c.of-images.ensures.closed)
-    (c.refused.ensures.of_images seed left (λ data_is. data_of_sums seed left c.in-Err-Refused.field-0 c.in-Err-Refused.error c.in-Err-Refused.field-0-is c.in-Err-Refused.ensures.refused (sym c.in-Err-Refused.error-is ∙ data_is))))
+    (c.image_failure.ensures.of_images seed left (λ data_is. data_of_sums seed left c.in-Err-Refused.field-0 c.in-Err-Refused.error c.in-Err-Refused.field-0-is c.in-Err-Refused.ensures.refused (sym c.in-Err-Refused.error-is ∙ data_is))))

@@ -14,13 +14,13 @@ returns-clause-failed g c =
     let options = options_of c.args.self.options.now in
     let images = c.of-images.result in
     let seed = c.args.self.seed in
-    let f = c.not_added.result in
+    let f = c.union_failure.result in
     let u = c.in-Err-Refused.field-0 in
     let e = c.in-Err-Refused.error in
     let left = remaining_images g.S.Source.Read.remaining g.S.Sources.texts images in
     subst (λ inputs. IsOfEitherUnion options seed (option_map (images_of options.sums options.hex) (g.S.Sources.texts inputs.sources)) f) c.of-images.ensures.inputs
     (subst (λ all. IsOfEitherUnion options seed all f) (all_images g.S.Source.Read.remaining g.S.Sources.texts images options.sums options.hex c.of-images.ensures.sums c.of-images.ensures.hex c.of-images.ensures.closed)
-    (c.not_added.ensures.of_union seed left
+    (c.union_failure.ensures.of_union seed left
     (λ policy. policy_of_sums options.sums seed left u e c.in-Err-Refused.field-0-is c.in-Err-Refused.ensures.refused (sym c.in-Err-Refused.error-is ∙ policy))
     (λ data_is. data_of_images options.sums seed left u e c.in-Err-Refused.field-0-is c.in-Err-Refused.ensures.refused (sym c.in-Err-Refused.error-is ∙ data_is))))
 
@@ -38,7 +38,7 @@ returns-in_err-check_count-in-Ok-clause-failed g c =
     (c.in_err-check_count-in-Ok.ensures.of_union options seed texts refl counted))
 
 pub returns-clause-fallible : goal.returns-clause-fallible
-returns-clause-fallible g c = c.not_added.ensures.fallible g.S.Sources.may_fail
+returns-clause-fallible g c = c.union_failure.ensures.fallible g.S.Sources.may_fail
 
 pub returns-in_err-check_count-in-Ok-clause-fallible : goal.returns-in_err-check_count-in-Ok-clause-fallible
 returns-in_err-check_count-in-Ok-clause-fallible g c =

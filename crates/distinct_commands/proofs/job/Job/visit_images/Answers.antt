@@ -27,13 +27,13 @@ returns-clause-failed g c =
     let options = options_of c.args.self.options.now in
     let images = c.of-images.result in
     let seed = c.args.self.seed in
-    let f = c.not_added.result in
+    let f = c.union_failure.result in
     let left = remaining_images g.S.Source.Read.remaining g.S.Sources.texts images in
     let sums : images.sums ≡ options.sums = c.of-images.ensures.sums ∙ sym c.requires.sums in
     subst (λ inputs. IsOfEitherUnion options seed (option_map (images_of options.sums options.hex) (g.S.Sources.texts inputs.sources)) f) c.of-images.ensures.inputs
     (subst (λ all. IsOfEitherUnion options seed all f) (all_images g.S.Source.Read.remaining g.S.Sources.texts images options.sums options.hex sums c.of-images.ensures.hex c.of-images.ensures.closed)
-    (c.not_added.ensures.of_union seed left (λ policy. c.requires.sums)
+    (c.union_failure.ensures.of_union seed left (λ policy. c.requires.sums)
     (λ data_is. subst (λ (b : Bool). HasNoSketch b seed left) (sym c.requires.sums) (data_of_images true seed left c.in-Err-Refused.field-0 c.in-Err-Refused.error c.in-Err-Refused.field-0-is c.in-Err-Refused.ensures.refused (sym c.in-Err-Refused.error-is ∙ data_is)))))
 
 pub returns-clause-fallible : goal.returns-clause-fallible
-returns-clause-fallible g c = c.not_added.ensures.fallible g.S.Sources.may_fail
+returns-clause-fallible g c = c.union_failure.ensures.fallible g.S.Sources.may_fail

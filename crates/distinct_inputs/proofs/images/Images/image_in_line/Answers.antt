@@ -2,7 +2,7 @@ use Rattle.std.proofs.Common.{ℕ, ◌≡◌, List, [], Vec, Global, refl, sym, 
 use Rattle.std.specs.Prelude.{max}
 use Rattle.distinct_inputs.specs.Images.{count_of}
 use Rattle.distinct_inputs.proofs.ImageLines.{spelled, nothing_spelled, count_of_nothing}
-use Rattle.distinct_inputs.proofs.images.Images.spelled.Goals as goal
+use Rattle.distinct_inputs.proofs.images.Images.image_in_line.Goals as goal
 
 pub returns-in-Some-clause-spelled : goal.returns-in-Some-clause-spelled
 returns-in-Some-clause-spelled g c =

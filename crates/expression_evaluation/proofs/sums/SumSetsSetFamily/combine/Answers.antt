@@ -7,7 +7,7 @@ use Rattle.core_laws.specs.Shown.{shown_value}
 use Rattle.core_slots.specs.Entry.{tuple_key}
 use Rattle.core_state.specs.View.{shows, sequence}
 use Rattle.expression_evaluation.proofs.TwoSketches.{difference_value, same_answers}
-use Rattle.expression_evaluation.proofs.sums.SumSetsSetFamily.combined.Goals as goal
+use Rattle.expression_evaluation.proofs.sums.SumSetsSetFamily.combine.Goals as goal
 
 pub returns-in_ok-difference-in-Difference-clause-value : goal.returns-in_ok-difference-in-Difference-clause-value
 returns-in_ok-difference-in-Difference-clause-value g c =

@@ -1,7 +1,7 @@
 use Rattle.std.proofs.Common.{subst, sym, ap, ◌∙◌, inr}
 use Rattle.std.specs.Prelude.{IfErr}
 use Rattle.std.proofs.lemmas.Result.{err_from_is_err_and}
-use Rattle.keys_groups.specs.United.{is_followed, IsNotAdded}
+use Rattle.keys_groups.specs.United.{is_followed, IsAddError}
 use Rattle.keys_groups.proofs.ImagesInGroups.{last_read}
 use Rattle.keys_groups.proofs.UnitedInTurn.{no_flaw}
 use Rattle.keys_groups.proofs.united.UnitedGroups.add_line.Goals as goal
@@ -10,7 +10,7 @@ pub returns-in_err-name-clause-failed : goal.returns-in_err-name-clause-failed
 returns-in_err-name-clause-failed c =
     let result = c.from_residual.result in
     let p = err_from_is_err_and result c.from_residual.ensures.1 in
-    subst (λ r. IfErr r (IsNotAdded c.args.seed c.args.line.now)) (sym p.1) (subst (IsNotAdded c.args.seed c.args.line.now) (sym p.2) (c.in_err-name.ensures.failed c.args.seed))
+    subst (λ r. IfErr r (IsAddError c.args.seed c.args.line.now)) (sym p.1) (subst (IsAddError c.args.seed c.args.line.now) (sym p.2) (c.in_err-name.ensures.failed c.args.seed))
 
 pub returns-then-is_longer-clause-failed : goal.returns-then-is_longer-clause-failed
 returns-then-is_longer-clause-failed c =

@@ -1,8 +1,8 @@
 use Rattle.std.proofs.Common.{ℕ, List, ◌∙◌, sym, subst}
 use Rattle.keys_lines.proofs.Fields.{key_reset, key_keep}
 use Rattle.keys_sums.specs.Amounts.{IsRead}
-use Rattle.keys_sums.proofs.addends.OpenNumber.kept.Goals.{else-self-eq0-via-then-self-eq0+else-before-ne0, else-self-eq0-via-else-self-eq0}
-use Rattle.keys_sums.proofs.addends.OpenNumber.kept.Goals as goal
+use Rattle.keys_sums.proofs.addends.OpenNumber.digits_after.Goals.{else-self-eq0-via-then-self-eq0+else-before-ne0, else-self-eq0-via-else-self-eq0}
+use Rattle.keys_sums.proofs.addends.OpenNumber.digits_after.Goals as goal
 
 pub returns-then-before-ne0 : goal.returns-then-before-ne0
 returns-then-before-ne0 c = λ separator front is. key_reset separator c.args.before front (sym is.counted ∙ c.if-self-eq0.true) c.if-before-ne0.true

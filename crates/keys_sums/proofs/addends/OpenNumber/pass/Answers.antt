@@ -13,7 +13,7 @@ no_more n m b is past = grind (arith, nat_tests)
 
 pub returns : goal.returns
 returns c = λ separator front is. record {
-  digits = c.kept.ensures separator front is;
+  digits = c.digits_after.ensures separator front is;
   counted = elim c.if-self-before.branch [
     | then-self-before w ↦ w.passed-is ∙ one_more c.args.self.passed c.args.before w.if-self-before.true
     | else-self-before w ↦ w.passed-is ∙ no_more c.args.self.passed _ c.args.before is.counted w.if-self-before.false

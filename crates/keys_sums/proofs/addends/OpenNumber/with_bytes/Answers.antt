@@ -1,6 +1,6 @@
 use Rattle.std.proofs.Common.{ℕ, List, [], ◌∷◌, ◌++◌, refl, sym, ap, subst, ◌∙◌, append-nil, append_assoc}
 use Rattle.keys_sums.specs.Amounts.{IsOpenNumber}
-use Rattle.keys_sums.proofs.addends.OpenNumber.extended.Goals as goal
+use Rattle.keys_sums.proofs.addends.OpenNumber.with_bytes.Goals as goal
 
 pub each_byte-init : goal.each_byte-init
 each_byte-init c = ([], refl, λ front is. subst (λ (bs : List ℕ). IsOpenNumber c.args.key bs c.args.self) (sym (append-nil front)) is)

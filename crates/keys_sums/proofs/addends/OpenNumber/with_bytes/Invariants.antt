@@ -1,6 +1,6 @@
 use Rattle.std.proofs.Common.{◌≡◌, ℕ, List, ◌++◌, length}
 use Rattle.keys_sums.specs.Amounts.{IsOpenNumber}
-use Rattle.keys_sums.proofs.addends.OpenNumber.extended.Given as goal
+use Rattle.keys_sums.proofs.addends.OpenNumber.with_bytes.Given as goal
 
 -- the bytes so far, followed by the rest, are all bytes, and the state is that after them
 abbrev pub invariant-each_byte : goal.invariant-each_byte
