@@ -95,7 +95,7 @@ fn is_repeated(uses: u8, files: &[String]) -> bool
 {
     let mut count = uses;
     let mut rest = files;
-    'each_file: while let Some((file, others)) = rest.split_first() {
+    while let Some((file, others)) = rest.split_first() {
         if 1 < count {
             return true;
         }
@@ -315,7 +315,7 @@ fn first_option(files: &[String]) -> Option<&String>
     ensures { option_map (λ file. string_bytes file.now) result ≡ find is_option (words_of files.now) }
 {
     let mut rest = files;
-    'each_file: while let Some((file, others)) = rest.split_first() {
+    while let Some((file, others)) = rest.split_first() {
         if is_option(file.as_str()) {
             return Some(file);
         }

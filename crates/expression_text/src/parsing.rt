@@ -249,7 +249,7 @@ impl<A: Allocator + Clone + Drop> Reading<A> {
         ensures unspelled { HasTokens [] self.old → IfErr result (λ f. f.reason ≢ Memory → SpellsNothing text.now) }
     {
         let mut rest = skip_blanks(text);
-        'each: loop {
+        loop {
             let offset = text.len() - rest.len();
             match self.put_first(alloc, rest) {
                 Ok(Some(behind)) => rest = skip_blanks(behind),
