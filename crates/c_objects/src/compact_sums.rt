@@ -110,7 +110,7 @@ fn copy_entries(entries: &[TupleEntry<u64>], hashes: &mut [u64], sums: &mut [u64
     ensures hashes { hashes.new ≡ map tuple_key entries.now ++ drop (length entries.now) hashes.old }
     ensures sums { sums.new ≡ map (λ e. e.summary) entries.now ++ drop (length entries.now) sums.old }
 {
-    'copy_each: for at in 0..entries.len() {
+    for at in 0..entries.len() {
         let entry = &entries[at];
         hashes[at] = entry.hash();
         sums[at] = *entry.summary();

@@ -17,7 +17,7 @@ fn hashes_of_strings(alloc: Global, seed: u64, bytes: &[u8], ends: &[u64]) -> Re
 {
     let mut hashes = Vec::new(alloc);
     let mut start = 0usize;
-    'hash_each: for at in ends {
+    for at in ends {
         let end = *at as usize;
         if end < start || bytes.len() < end {
             return Err(INVALID_ARGUMENT);

@@ -96,7 +96,7 @@ pub fn read<E: ShownEntry, A: Allocator>(
 fn all_below<E: SketchEntry>(entries: &[E], theta: u64) -> bool
     ensures { result ≡ true → AllByRecursion (λ x. E.key x < theta) entries.now }
 {
-    'each: for entry in entries {
+    for entry in entries {
         if theta <= entry.hash() {
             return false;
         }

@@ -12,7 +12,7 @@ fn put_line_char<A: Allocator>(text: &mut String<A>, c: char) -> Result<(), Allo
     if !c.is_control() {
         return text.push(c);
     }
-    'each_letter: for letter in c.escape_default() {
+    for letter in c.escape_default() {
         text.push(letter)?;
     }
     Ok(())
@@ -24,7 +24,7 @@ pub fn escaped_name<A: Allocator>(alloc: A, name: &str) -> Result<String<A>, All
     ensures { IfOk result (λ text. string_bytes text ≡ escaped_name name.now) }
 {
     let mut text = String::new(alloc);
-    'each_char: for c in name.chars() {
+    for c in name.chars() {
         put_line_char(&mut text, c)?;
     }
     Ok(text)
@@ -67,7 +67,7 @@ pub(crate) fn put_json_string<A: Allocator>(
     ensures { OnOk result (string_bytes text.new ≡ string_bytes text.old ++ json_string name.now) }
 {
     text.push_str("\"")?;
-    'each_char: for c in name.chars() {
+    for c in name.chars() {
         put_json_char(text, c)?;
     }
     text.push_str("\"")?;

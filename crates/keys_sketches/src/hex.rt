@@ -52,7 +52,7 @@ fn digit_of(letter: u8) -> Option<u8>
 pub(crate) fn are_digits(letters: &[u8]) -> bool
     ensures { result ≡ are_digits letters.now }
 {
-    'test_each: for letter in letters {
+    for letter in letters {
         if digit_of(*letter).is_none() {
             return false;
         }

@@ -108,7 +108,7 @@ fn take_lines<'a, A: Allocator + Clone>(
     let mut hashes = [0u64; LINES_AT_ONCE];
     let mut rest = text;
     let mut count = 0u64;
-    'take_some: loop {
+    loop {
         let (lines, behind) = hash_lines(hashing, rest, &mut hashes);
         sketch.update_hashes(&hashes[..lines])?;
         rest = behind;

@@ -118,7 +118,7 @@ impl OpenNumber {
     {
         let mut state = self;
         let mut rest = bytes;
-        'each_byte: while let Some((byte, others)) = rest.split_first() {
+        while let Some((byte, others)) = rest.split_first() {
             state = state.with(key, *byte);
             rest = others;
         }

@@ -41,7 +41,7 @@ pub fn greatest_sum<A: Allocator>(sketch: &CompactTupleSketch<u64, A>) -> u64
     ensures { result ≡ greatest (sums_in sketch.now) }
 {
     let mut most = 0u64;
-    'each_entry: for entry in sketch.iter() {
+    for entry in sketch.iter() {
         most = most.max(*entry.summary());
     }
     most
@@ -55,7 +55,7 @@ pub fn count_in<A: Allocator>(sketch: &CompactTupleSketch<u64, A>, bin: u32) -> 
 {
     let _ = sketch.num_retained();
     let mut count = 0usize;
-    'each_entry: for entry in sketch.iter() {
+    for entry in sketch.iter() {
         if is_in(bin, *entry.summary()) {
             count = count.saturating_add(1);
         }

@@ -59,7 +59,7 @@ pub fn all_sums<A: Allocator + Clone + Drop, S: Sources>(
     ensures fallible { IfErr result (FailsIf S.may_fail) }
 {
     let mut sketches = Vec::new(alloc.clone()?);
-    'each_image: for _ in 0..u64::MAX {
+    for _ in 0..u64::MAX {
         match images.next_source() {
             Ok(Some(mut source)) => {
                 let sketch = sums_in(alloc.clone()?, seed, &mut source)?;

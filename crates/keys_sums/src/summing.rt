@@ -165,7 +165,7 @@ fn take_block<A: Allocator + Clone>(
 {
     let mut rest = block;
     let mut count = count;
-    'take_each: while let Some((piece, others)) = cut_line(rest) {
+    while let Some((piece, others)) = cut_line(rest) {
         last.extend(amount, piece);
         add_line(sketch, amount, last, count)?;
         *last = OpenAddend::new(hashing);

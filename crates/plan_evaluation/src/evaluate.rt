@@ -162,7 +162,7 @@ fn updated<F: SketchFamily<A>, A: Allocator + Clone>(
         ⊎ RefusedFor e F.strict ((own ≡ None) × IsTrue (steps_refused f (2 ^ lg_k) start steps.now))) }
 {
     let mut sketch = family.new_sketch(alloc.clone()?, lg_k, start, seed)?;
-    'steps: for step in steps {
+    for step in steps {
         apply(family, &mut sketch, step)?;
     }
     Ok(sketch)

@@ -28,7 +28,7 @@ pub fn sum_of(entries: TupleSketchIter<'_, u64>) -> u128
     ensures limited { result ≤ (2 ^ 64 - 1) * length entries.entry.rest }
 {
     let mut sum = 0u128;
-    'add_each: for entry in entries {
+    for entry in entries {
         sum += *entry.summary() as u128;
     }
     sum

@@ -3,8 +3,8 @@ use Rattle.core_slots.specs.Entry.{tuple_key}
 use Rattle.c_objects.proofs.compact_sums.copy_entries.Given as goal
 
 -- the fronts have what was copied so far, and behind them nothing has changed
-abbrev pub invariant-copy_each : goal.invariant-copy_each
-invariant-copy_each l = record {
+abbrev pub invariant-loop-at : goal.invariant-loop-at
+invariant-loop-at l = record {
   hashes : take l.at l.hashes ≡ map tuple_key (take l.at l.entries);
   sums : take l.at l.sums ≡ map (λ e. e.summary) (take l.at l.entries);
   rest_of_hashes : drop l.at l.hashes ≡ drop l.at l.initial.hashes;

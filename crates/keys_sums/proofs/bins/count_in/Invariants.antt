@@ -4,10 +4,10 @@ use Rattle.keys_sums.specs.Bins.{is_in}
 use Rattle.keys_sums.proofs.bins.count_in.Given as goal
 
 -- those so far, and those that are left; together fewer than 2^32
-abbrev pub invariant-each_entry : goal.invariant-each_entry
-invariant-each_entry g l =
+abbrev pub invariant-loop-entry : goal.invariant-loop-entry
+invariant-loop-entry g l =
     (l.count + length (filter (λ e. is_in l.bin e.summary) l.entry-iterator.rest) ≡ length (filter (λ e. is_in l.bin e.summary) l.fn.sketch.entries))
     × (length (filter (λ e. is_in l.bin e.summary) l.fn.sketch.entries) < 2 ^ 32)
 
-abbrev pub decreases-each_entry : goal.decreases-each_entry
-decreases-each_entry g l = length l.entry-iterator.rest
+abbrev pub decreases-loop-entry : goal.decreases-loop-entry
+decreases-loop-entry g l = length l.entry-iterator.rest

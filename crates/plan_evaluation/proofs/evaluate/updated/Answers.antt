@@ -13,28 +13,28 @@ returns-in_err-apply-clause-refused g c =
     let refuses = g.F.SketchFamily.refuses c.args.family.now in
     let f = folds_of rules refuses in
     let lawful = folds_keep rules refuses (g.met.F.SketchFamily.keeps c.args.family.now) in
-    let i = c.steps.step-index in
+    let i = c.loop-step.step-index in
     rw (p.1, p.2) (inr (for_other _ g.F.SketchFamily.strict
     (λ marks. (
       c.in_ok-sketch.ensures.refused,
-      refused_stepped f lawful c.args.lg_k c.args.start c.args.seed c.args.steps.now i c.step-item.result c.steps-test.true (g.F.SketchFamily.state c.steps.sketch).map.kept c.steps.invariant.kept (rw c.step-item.is at marks),
+      refused_stepped f lawful c.args.lg_k c.args.start c.args.seed c.args.loop-step.now i c.step-item.result c.loop-step-test.true (g.F.SketchFamily.state c.loop-step.sketch).map.kept c.loop-step.invariant.kept (rw c.step-item.is at marks),
     ))
     c.in_err-apply.ensures.refused))
 
-pub steps-preserved : goal.steps-preserved
-steps-preserved g c =
+pub loop-step-preserved : goal.loop-step-preserved
+loop-step-preserved g c =
     let rules = g.F.SketchFamily.rules c.args.family.now in
     let refuses = g.F.SketchFamily.refuses c.args.family.now in
     let f = folds_of rules refuses in
     let lawful = folds_keep rules refuses (g.met.F.SketchFamily.keeps c.args.family.now) in
-    let was = g.F.SketchFamily.state c.steps.sketch in
+    let was = g.F.SketchFamily.state c.loop-step.sketch in
     let now = g.F.SketchFamily.state c.apply.new.sketch in
-    let i = c.steps.step-index in
+    let i = c.loop-step.step-index in
     let d = c.step-item.result in
     record {
       own = c.in_ok-apply.ensures.still;
-      kept = kept_stepped f lawful c.args.lg_k c.args.start c.args.seed c.args.steps.now i d c.steps-test.true was.map now.map c.steps.invariant.kept c.steps.invariant.made (rw c.step-item.is at c.in_ok-apply.ensures.map);
-      made = made_stepped c.args.lg_k c.args.start c.args.seed was.map now.map c.steps.invariant.made c.in_ok-apply.ensures.made_with;
-      unrefused = unrefused_stepped f lawful c.args.lg_k c.args.start c.args.seed c.args.steps.now i d c.steps-test.true was.map.kept c.steps.invariant.kept c.steps.invariant.unrefused (rw c.step-item.is at c.in_ok-apply.ensures.unrefused);
-      empty = empty_stepped f lawful c.args.lg_k c.args.start c.args.seed c.args.steps.now i d c.steps-test.true was.empty now.empty c.steps.invariant.empty (rw c.step-item.is at c.in_ok-apply.ensures.empty);
+      kept = kept_stepped f lawful c.args.lg_k c.args.start c.args.seed c.args.loop-step.now i d c.loop-step-test.true was.map now.map c.loop-step.invariant.kept c.loop-step.invariant.made (rw c.step-item.is at c.in_ok-apply.ensures.map);
+      made = made_stepped c.args.lg_k c.args.start c.args.seed was.map now.map c.loop-step.invariant.made c.in_ok-apply.ensures.made_with;
+      unrefused = unrefused_stepped f lawful c.args.lg_k c.args.start c.args.seed c.args.loop-step.now i d c.loop-step-test.true was.map.kept c.loop-step.invariant.kept c.loop-step.invariant.unrefused (rw c.step-item.is at c.in_ok-apply.ensures.unrefused);
+      empty = empty_stepped f lawful c.args.lg_k c.args.start c.args.seed c.args.loop-step.now i d c.loop-step-test.true was.empty now.empty c.loop-step.invariant.empty (rw c.step-item.is at c.in_ok-apply.ensures.empty);
     }

@@ -2,12 +2,12 @@ use Rattle.std.proofs.Common.{ℕ, List, [], ◌∷◌, ◌++◌, refl, sym, ap,
 use Rattle.keys_sums.specs.Amounts.{IsOpenNumber}
 use Rattle.keys_sums.proofs.addends.OpenNumber.with_bytes.Goals as goal
 
-pub each_byte-init : goal.each_byte-init
-each_byte-init c = ([], refl, λ front is. subst (λ (bs : List ℕ). IsOpenNumber c.args.key bs c.args.self) (sym (append-nil front)) is)
+pub loop-byte-init : goal.loop-byte-init
+loop-byte-init c = ([], refl, λ front is. subst (λ (bs : List ℕ). IsOpenNumber c.args.key bs c.args.self) (sym (append-nil front)) is)
 
-pub each_byte-preserved : goal.each_byte-preserved
-each_byte-preserved c =
-    let inv = c.each_byte.invariant in
+pub loop-byte-preserved : goal.loop-byte-preserved
+loop-byte-preserved c =
+    let inv = c.loop-byte.invariant in
     let byte = c.in-Some.byte.now in (
       inv.0 ++ byte ∷ [],
       inv.1 ∙ ap (λ bs. inv.0 ++ bs) (c.in-Some.ensures.cases.0) ∙ sym (append_assoc inv.0 (byte ∷ []) c.in-Some.others.now),
