@@ -9,7 +9,7 @@ fn field_after(before: u32, separator: u8, text: &[u8]) -> &[u8]
     ensures { result.now ≡ get_or (fields_of separator text.now) before [] }
 {
     let mut rest = text;
-    'skip: for passed in 0..before {
+    for passed in 0..before {
         match cut_at(rest, separator) {
             Some((_, others)) => rest = others,
             None => return &[],

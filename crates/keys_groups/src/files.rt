@@ -56,7 +56,7 @@ pub fn file_name(alloc: Global, name: &[u8]) -> Result<Vec<u8>, AllocError>
         text.push(b'%')?;
     }
     let mut left = name;
-    'each_byte: while let Some((byte, others)) = left.split_first() {
+    while let Some((byte, others)) = left.split_first() {
         spell(&mut text, *byte)?;
         left = others;
     }
@@ -88,7 +88,7 @@ pub fn files_of(alloc: Global, hex: bool, groups: &mut Groups) -> Result<Vec<Gro
     ensures refused { Refuses result None true }
 {
     let mut files = Vec::new(alloc);
-    'each_group: for _ in 0..u64::MAX {
+    for _ in 0..u64::MAX {
         let Some(group) = groups.next_group()? else {
             return Ok(files);
         };

@@ -5,7 +5,7 @@ ghost use Rattle.core_laws.specs.Settings.{settings_refusal};
 ghost use Rattle.core_laws.specs.declared.TheConstants.{MAX_THETA};
 ghost use Rattle.keys_lines.specs.declared.key.Hashing.{Hashing};
 ghost use Rattle.keys_sketches.specs.Keys.{line_state, new_state, with_line};
-ghost use Rattle.keys_groups.specs.Groups.{AreLeft, HasGroups, IsNext};
+ghost use Rattle.keys_groups.specs.Groups.{AreLeft, IsNext};
 ghost use Rattle.keys_groups.specs.States.{Changes, UpdatesGroup, AddsLine, IsGrouped};
 ghost use Rattle.keys_groups.specs.declared.groups.Grouping.{Grouping};
 
@@ -40,7 +40,7 @@ pub struct Group {
 /// Groups of lines, each with a sketch that takes more lines.
 #[derive(Drop)]
 pub struct Groups {
-    map: BTreeMap<Vec<u8>, ThetaSketch>,
+    pub(crate) map: BTreeMap<Vec<u8>, ThetaSketch>,
 }
 
 impl Groups {
@@ -110,16 +110,6 @@ impl Groups {
     /// The number of groups.
     pub(crate) fn count(&self) -> usize {
         self.map.len()
-    }
-
-    /// The groups in the order of their names, once all lines are inserted.
-    pub(crate) fn sorted(self) -> Groups
-        ensures { (grouping : Grouping) (lines : List (List ℕ))
-            → IsGrouped grouping lines self.map
-            → HasGroups grouping lines result }
-    {
-        let _ = self.map.len();
-        self
     }
 
     /// Takes out the first group of those that are left, or returns `None` if none is. Refused only with

@@ -19,6 +19,7 @@ mod fields;
 mod files;
 mod groups;
 pub mod laws;
+mod order;
 mod ranked;
 mod reading;
 mod tabs;

@@ -41,7 +41,7 @@ fn joined_texts(alloc: Global, groups: &[Ranked]) -> Result<Vec<u8>, AllocError>
 {
     let mut text = Vec::new(alloc);
     let mut left = groups;
-    'each_group: while let Some((group, others)) = left.split_first() {
+    while let Some((group, others)) = left.split_first() {
         text.extend_from_slice(group.text.as_slice())?;
         left = others;
     }

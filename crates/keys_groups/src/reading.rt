@@ -10,6 +10,7 @@ ghost use Rattle.keys_groups.specs.Reading.{ReadsLine};
 ghost use Rattle.keys_groups.specs.States.{IsGrouped};
 
 use crate::groups::{Grouping, Groups, check_settings};
+use crate::order::names_ascend;
 use keys_sketches::{BLOCK, ReadError, Sources, TextReader, read_failure};
 use sketch_base::Error;
 use std::alloc::{AllocError, Global};
@@ -71,7 +72,7 @@ fn add_lines<R: TextReader + Drop, W: GroupWatch>(
         Err(_) => return Err(ReadError::Refused(Error::from(AllocError))),
     };
     let mut line = Vec::new(alloc);
-    'each_line: for _ in 0..u64::MAX {
+    for _ in 0..u64::MAX {
         match next_line(&mut buffered, &mut line) {
             Ok(true) => {
                 let bytes = without_lf(line.as_slice());
@@ -105,12 +106,15 @@ pub fn group_sources<S: Sources, W: GroupWatch>(
 {
     check_settings(alloc, grouping)?;
     let mut groups = Groups::new(alloc);
-    'each_source: for _ in 0..u64::MAX {
+    for _ in 0..u64::MAX {
         match sources.next_source() {
             Ok(Some(source)) => {
                 add_lines(&mut groups, alloc, grouping, source, watch)?;
             }
-            Ok(None) => return Ok(groups.sorted()),
+            Ok(None) => {
+                names_ascend(&groups.map);
+                return Ok(groups);
+            }
             Err(error) => return Err(read_failure(S::may_fail(), error)),
         }
     }

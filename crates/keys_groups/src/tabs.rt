@@ -10,7 +10,7 @@ pub(crate) fn cut_last(line: &[u8]) -> Option<(&[u8], &[u8])>
     ensures none { IfNone result (has_tab line.now ≡ false) }
 {
     let mut left = line;
-    'each_byte: while let Some((last, front)) = left.split_last() {
+    while let Some((last, front)) = left.split_last() {
         if *last == b'\t' {
             let (_, behind) = line.split_at(left.len());
             return Some((front, behind));

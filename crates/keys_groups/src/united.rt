@@ -11,7 +11,7 @@ ghost use Rattle.core_operators.specs.Union.{empty_union};
 ghost use Rattle.theta_sketches.specs.Image.{IsReadable};
 ghost use Rattle.keys_groups.specs.Tabs.{has_tab, before_tab, behind_tab};
 ghost use Rattle.keys_groups.specs.United.{image_line, image_in, IsUniting, AreReady, UpdatesUnion, BeginsUnion};
-ghost use Rattle.keys_groups.specs.United.{AreUnited, HasUnions, AreSound, IsNextUnited, is_followed};
+ghost use Rattle.keys_groups.specs.United.{AreUnited, AreSound, IsNextUnited, is_followed};
 ghost use Rattle.keys_groups.specs.United.{IsNotOneImage, IsAddError, IsFlawless};
 
 use crate::tabs::cut_last;
@@ -63,7 +63,7 @@ pub struct UnitedGroup {
 /// Groups of images, each with the union of its images.
 #[derive(Drop)]
 pub struct UnitedGroups {
-    map: BTreeMap<Vec<u8>, ThetaUnion>,
+    pub(crate) map: BTreeMap<Vec<u8>, ThetaUnion>,
     /// The most hashes that an image retains.
     most: u64,
 }
@@ -248,18 +248,6 @@ impl UnitedGroups {
         ensures { result ≡ self.now.most }
     {
         self.most
-    }
-
-    /// The groups in the order of their names, once all images are united.
-    pub(crate) fn sorted(self) -> UnitedGroups
-        ensures unions { (seed lg_k : ℕ) (lines : List (List ℕ))
-            → IsUniting seed lg_k lines self.map
-            → HasUnions seed lg_k lines result }
-        ensures sound { (seed : ℕ) → AreReady seed self.map → AreSound result }
-        ensures most { result.most ≡ self.most }
-    {
-        let _ = self.map.len();
-        self
     }
 
     /// Takes out the first group of those that are left, or returns `None` if none is. Refused only with

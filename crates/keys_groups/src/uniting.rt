@@ -12,6 +12,7 @@ ghost use Rattle.keys_groups.specs.United.{AreSketchedTexts, IsSketchedText};
 ghost use Rattle.keys_groups.specs.declared.groups.Grouping.{Grouping};
 
 use crate::laws::groups_unite;
+use crate::order::names_ascend;
 use crate::reading::{next_line, without_lf};
 use crate::united::{AddError, LineFlaw, UnitedGroups, check_union, image_line};
 use keys_sketches::{BLOCK, Sources, TextReader};
@@ -92,7 +93,7 @@ fn add_lines<R: TextReader + Drop>(
         Err(_) => return Err(UniteError::Refused(Error::from(AllocError))),
     };
     let mut line = Vec::new(alloc);
-    'each_line: for passed in 0..u64::MAX {
+    for passed in 0..u64::MAX {
         match next_line(&mut buffered, &mut line) {
             Ok(true) => {
                 let bytes = without_lf(line.as_slice());
@@ -133,12 +134,15 @@ pub fn unite_groups<S: Sources>(
 {
     check_union(alloc, seed, lg_k)?;
     let mut groups = UnitedGroups::new(alloc);
-    'each_source: for _ in 0..u64::MAX {
+    for _ in 0..u64::MAX {
         match sources.next_source() {
             Ok(Some(source)) => {
                 add_lines(&mut groups, alloc, seed, lg_k, source)?;
             }
-            Ok(None) => return Ok(groups.sorted()),
+            Ok(None) => {
+                names_ascend(&groups.map);
+                return Ok(groups);
+            }
             Err(error) => return Err(read_failure(S::may_fail(), error)),
         }
     }
@@ -162,7 +166,7 @@ pub fn united_text(alloc: Global, groups: &mut UnitedGroups) -> Result<Vec<u8>, 
 {
     groups_unite();
     let mut text = Vec::new(alloc);
-    'each_group: for _ in 0..u64::MAX {
+    for _ in 0..u64::MAX {
         let Some(group) = groups.next_group()? else {
             return Ok(text);
         };

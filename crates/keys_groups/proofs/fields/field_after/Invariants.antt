@@ -3,5 +3,5 @@ use Rattle.keys_lines.specs.Keys.{fields_of}
 use Rattle.keys_groups.proofs.fields.field_after.Given as goal
 
 -- the field is the same of the rest, after fewer others
-abbrev pub invariant-skip : goal.invariant-skip
-invariant-skip l = get_or (fields_of l.separator l.rest) (l.before - l.passed) [] ≡ get_or (fields_of l.separator l.text) l.before []
+abbrev pub invariant-loop-passed : goal.invariant-loop-passed
+invariant-loop-passed l = get_or (fields_of l.separator l.rest) (l.before - l.passed) [] ≡ get_or (fields_of l.separator l.text) l.before []

@@ -5,6 +5,6 @@ use Rattle.keys_groups.specs.declared.groups.Grouping.{Grouping}
 use Rattle.keys_groups.proofs.files.files_of.Given as goal
 
 -- the files so far, followed by those of the groups that are left, are all files
-abbrev pub invariant-each_group : goal.invariant-each_group
-invariant-each_group l = (grouping : Grouping) (lines names : List (List ℕ)) → AreLeft grouping lines names l.fn.groups →
+abbrev pub invariant-loop : goal.invariant-loop
+invariant-loop l = (grouping : Grouping) (lines names : List (List ℕ)) → AreLeft grouping lines names l.fn.groups →
     (left : List (List ℕ)) × AreLeft grouping lines left l.groups × (files_of l.hex grouping lines names ≡ contents_of l.files.items ++ files_of l.hex grouping lines left)

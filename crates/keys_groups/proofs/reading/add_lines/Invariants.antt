@@ -5,5 +5,5 @@ use Rattle.keys_groups.specs.States.{IsGrouped}
 use Rattle.keys_groups.proofs.reading.add_lines.Given as goal
 
 -- the lines that were read are in their groups, behind those that were there before, and the others are left
-abbrev pub invariant-each_line : goal.invariant-each_line
-invariant-each_line g l = (before : List (List ℕ)) → IsGrouped l.grouping before l.fn.groups.map → ContinuesLines (g.R.Read.remaining l.fn.reader) (reader_remaining g.R.Read.remaining l.buffered) (λ taken. IsGrouped l.grouping (before ++ taken) l.groups.map)
+abbrev pub invariant-loop : goal.invariant-loop
+invariant-loop g l = (before : List (List ℕ)) → IsGrouped l.grouping before l.fn.groups.map → ContinuesLines (g.R.Read.remaining l.fn.reader) (reader_remaining g.R.Read.remaining l.buffered) (λ taken. IsGrouped l.grouping (before ++ taken) l.groups.map)

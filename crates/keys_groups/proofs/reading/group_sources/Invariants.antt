@@ -4,5 +4,5 @@ use Rattle.keys_groups.specs.States.{IsGrouped}
 use Rattle.keys_groups.proofs.reading.group_sources.Given as goal
 
 -- the lines of the texts that were read are in their groups, and the others are left
-abbrev pub invariant-each_source : goal.invariant-each_source
-invariant-each_source g l = Continues (g.S.Sources.texts l.fn.sources) (g.S.Sources.texts l.sources) (λ taken. IsGrouped l.grouping (lines_of_all taken) l.groups.map)
+abbrev pub invariant-loop : goal.invariant-loop
+invariant-loop g l = Continues (g.S.Sources.texts l.fn.sources) (g.S.Sources.texts l.sources) (λ taken. IsGrouped l.grouping (lines_of_all taken) l.groups.map)
