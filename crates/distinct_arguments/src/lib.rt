@@ -19,4 +19,4 @@ pub use commands::{Command, Operator, Request, Topic};
 pub use fault::{Escaped, Fault};
 pub use help::text_of;
 pub use options::{Form, OptionName, Options, Order, Seed};
-pub use words::{has_option, option_of, seed_of};
+pub use words::seed_of;

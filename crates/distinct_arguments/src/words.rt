@@ -71,7 +71,7 @@ pub(crate) fn split_option(word: &str) -> (&str, Option<&str>)
 }
 
 /// The option of a name, such as `--lg-k`.
-pub fn option_of(name: &str) -> Option<OptionName>
+pub(crate) fn option_of(name: &str) -> Option<OptionName>
     ensures { result ≡ option_of name.now }
 {
     match name {
@@ -132,7 +132,7 @@ pub(crate) fn name_of(option: OptionName) -> &'static str
 }
 
 /// Whether a command has an option.
-pub fn has_option(command: Command, option: OptionName) -> bool
+pub(crate) fn has_option(command: Command, option: OptionName) -> bool
     ensures { result ≡ has_option command option }
 {
     let makes_sketch = command == Command::Count || command == Command::Sketch;
