@@ -1,7 +1,7 @@
 //! What to do about a failure: printed after its message, by the words of the command.
 
 use distinct_arguments::{Escaped, Fault};
-use distinct_inputs::{Failure, family_name};
+use distinct_messages::{Failure, family_name};
 use keys_sketches::Flaw;
 use std::fmt;
 use std::io::ErrorKind;

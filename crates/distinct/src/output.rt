@@ -1,8 +1,8 @@
 //! Writing the file that `--output` names.
 ghost use Rattle.std.specs.Prelude.{IfErr};
-ghost use Rattle.distinct_inputs.specs.Failures.{IsOfWriting};
+ghost use Rattle.distinct_messages.specs.Failures.{IsOfWriting};
 
-use distinct_inputs::{Failure, write_failure};
+use distinct_messages::{Failure, write_failure};
 use keys_groups::GroupFile;
 use std::alloc::Global;
 use std::fs::{File, Files};

@@ -1,6 +1,6 @@
 //! Remarks and reports of progress on standard error.
 
-use distinct_inputs::{Console, Remark};
+use distinct_messages::{Console, Remark};
 use keys_groups::GroupWatch;
 use keys_reports::estimate_so_far;
 use keys_sketches::Watch;

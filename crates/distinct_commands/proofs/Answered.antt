@@ -25,8 +25,8 @@ use Rattle.distinct_inputs.specs.Images.{in_form}
 use Rattle.distinct_arguments.specs.Settings.{OptionValues, chosen_value}
 use Rattle.distinct_arguments.specs.declared.fault.Fault.TheVariants.{SumNeedsValue}
 use Rattle.distinct_inputs.specs.Failures.{IsOfSums, IsOfTotal, IsOfTotalOf}
-use Rattle.distinct_inputs.specs.declared.failure.Failure.{Failure}
-use Rattle.distinct_inputs.specs.declared.failure.Failure.TheVariants.{Arguments}
+use Rattle.distinct_messages.specs.declared.failure.Failure.{Failure}
+use Rattle.distinct_messages.specs.declared.failure.Failure.TheVariants.{Arguments}
 
 -- the sketch of lines that are in no groups, or their groups, as they are printed or written
 ungrouped : (images : Bool) (options : OptionValues) (seed : ℕ) (texts : List (List ℕ)) (s : Compact ℕ) (out : List ℕ) → s ≡ sketch_of options seed texts → out ≡ lines_text images options s → IsLinesText images None options seed texts out

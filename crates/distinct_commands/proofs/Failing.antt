@@ -11,8 +11,8 @@ use Rattle.distinct_arguments.specs.declared.commands.Operator.{Operator}
 use Rattle.distinct_arguments.specs.declared.commands.Operator.TheVariants.{Union}
 use Rattle.distinct_inputs.specs.Failures.{images_in, unites_sums, IsOfImages, IsOfEitherUnion, IsOfCombining}
 use Rattle.distinct_commands.specs.Failing.{OrNoFiles}
-use Rattle.distinct_inputs.specs.declared.failure.Failure.{Failure}
-use Rattle.distinct_inputs.specs.declared.failure.Failure.TheVariants.{NotText, Arguments, NoFiles, NotTwo, NoExpression, NoDir, NoName, NoNul, NoSeed, Terminal, WrongCount, NotOneEach, Memory, Unreadable, NoSketch, NoSums, NoHex, NoTab, NoLine, PastGreatest, PastUnion, PastResult, NotANumber, NotWritten}
+use Rattle.distinct_messages.specs.declared.failure.Failure.{Failure}
+use Rattle.distinct_messages.specs.declared.failure.Failure.TheVariants.{NotText, Arguments, NoFiles, NotTwo, NoExpression, NoDir, NoName, NoNul, NoSeed, Terminal, WrongCount, NotOneEach, Memory, Unreadable, NoSketch, NoSums, NoHex, NoTab, NoLine, PastGreatest, PastUnion, PastResult, NotANumber, NotWritten}
 
 -- images that an operator reads
 images_combining : (operator : Operator) (options : OptionValues) (seed count : ℕ) (texts : Option (List (List ℕ))) (f : Failure) →

@@ -11,9 +11,10 @@ use Rattle.keys_sketches.specs.Sources.{Continues, GivesNext}
 use Rattle.keys_sketches.proofs.Refused.{faulty_next}
 use Rattle.keys_sketches.specs.Shards.{AreRead}
 use Rattle.distinct_commands.specs.Answers.{AreShownByName, AreShown, IsExpected, IsIntersectionImage, intersection_of}
-use Rattle.distinct_inputs.specs.Failures.{display_name, AreCounted, IsOfImages}
-use Rattle.distinct_inputs.specs.declared.failure.Failure.{Failure}
-use Rattle.distinct_inputs.specs.declared.failure.Failure.TheVariants.{NotText, Arguments, NoFiles, NotTwo, NoExpression, NoDir, NoName, NoNul, NoSeed, Terminal, WrongCount, NotOneEach, Memory, Unreadable, NoSketch, NoSums, NoHex, NoTab, NoLine, PastGreatest, PastUnion, PastResult, NotANumber, NotWritten}
+use Rattle.distinct_messages.specs.Failures.{display_name}
+use Rattle.distinct_inputs.specs.Failures.{AreCounted, IsOfImages}
+use Rattle.distinct_messages.specs.declared.failure.Failure.{Failure}
+use Rattle.distinct_messages.specs.declared.failure.Failure.TheVariants.{NotText, Arguments, NoFiles, NotTwo, NoExpression, NoDir, NoName, NoNul, NoSeed, Terminal, WrongCount, NotOneEach, Memory, Unreadable, NoSketch, NoSums, NoHex, NoTab, NoLine, PastGreatest, PastUnion, PastResult, NotANumber, NotWritten}
 use Rattle.distinct_inputs.specs.declared.images.Images.{Images}
 use Rattle.distinct_inputs.specs.Images.{only_image, images_of, parts_left, remaining_images, open_text, HasNoSketch, IsNoSketch, ReadsFirst, ReadsNext}
 use Rattle.distinct_commands.specs.Texts.{shown_text}

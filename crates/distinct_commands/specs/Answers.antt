@@ -16,7 +16,8 @@ use Rattle.distinct_arguments.specs.Settings.{OptionValues, chosen_group, chosen
 use Rattle.keys_groups.specs.United.{IsUnitedText}
 use Rattle.distinct_arguments.specs.Arguments.{Action, prints, runs, fails}
 use Rattle.distinct_arguments.specs.Texts.{text_of}
-use Rattle.distinct_inputs.specs.Failures.{display_name, chosen_amount, chosen_hashing, unites_groups, unites_sums}
+use Rattle.distinct_messages.specs.Failures.{display_name}
+use Rattle.distinct_inputs.specs.Failures.{chosen_amount, chosen_hashing, unites_groups, unites_sums}
 use Rattle.distinct_commands.specs.Eval.{IsEvaluatedOf}
 use Rattle.distinct_inputs.specs.Images.{images_of, in_form}
 use Rattle.distinct_commands.specs.Groups.{IsGroupedText}

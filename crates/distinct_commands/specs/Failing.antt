@@ -16,14 +16,15 @@ use Rattle.distinct_arguments.specs.declared.commands.Command.TheVariants.{Count
 use Rattle.distinct_arguments.specs.declared.commands.Command.TheVariants.{Visits, Sum}
 use Rattle.distinct_arguments.specs.declared.fault.Fault.TheVariants.{NotOneExpression}
 use Rattle.distinct_inputs.specs.Failures.{images_in, unites_groups, IsOfReading, IsOfImages, IsOfSketch}
-use Rattle.distinct_inputs.specs.Failures.{IsOfOperator, IsOfVisits, IsOfTotal, IsOfWriting}
+use Rattle.distinct_messages.specs.Failures.{IsOfWriting}
+use Rattle.distinct_inputs.specs.Failures.{IsOfOperator, IsOfVisits, IsOfTotal}
 use Rattle.distinct_inputs.specs.Images.{images_of}
 use Rattle.distinct_inputs.specs.Lists.{IsFirstUnnamed}
-use Rattle.distinct_inputs.specs.declared.failure.Failure.{Failure}
+use Rattle.distinct_messages.specs.declared.failure.Failure.{Failure}
 use Rattle.distinct_inputs.specs.declared.lists.ListError.{ListError}
 use Rattle.distinct_inputs.specs.declared.lists.ListError.TheVariants.{Name, Memory as NoMemory}
-use Rattle.distinct_inputs.specs.declared.failure.Failure.TheVariants.{Arguments, NoFiles, NoExpression, NoName}
-use Rattle.distinct_inputs.specs.declared.failure.Failure.TheVariants.{NotOneEach, PastResult, Memory}
+use Rattle.distinct_messages.specs.declared.failure.Failure.TheVariants.{Arguments, NoFiles, NoExpression, NoName}
+use Rattle.distinct_messages.specs.declared.failure.Failure.TheVariants.{NotOneEach, PastResult, Memory}
 use Rattle.distinct_commands.specs.declared.expression.Operands.{Operands}
 use Rattle.distinct_commands.specs.declared.expression.Operands.TheVariants as operands
 

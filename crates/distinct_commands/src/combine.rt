@@ -12,15 +12,17 @@ ghost use Rattle.distinct_commands.specs.Answers.{intersection_of, difference_of
 ghost use Rattle.distinct_inputs.specs.Images.{remaining_images, HasNoSketch, ReadsNext};
 ghost use Rattle.distinct_inputs.specs.Failures.{images_in, unites_sums, AreCounted, IsOfImages, IsOfCombining};
 ghost use Rattle.distinct_inputs.specs.Failures.{IsOfEitherUnion, IsOfUniting};
-ghost use Rattle.distinct_inputs.specs.Failures.{ReportsNoSketch, ReportsPastUnion, UnreadableIf};
+ghost use Rattle.distinct_messages.specs.Failures.{UnreadableIf};
+ghost use Rattle.distinct_inputs.specs.Failures.{ReportsNoSketch, ReportsPastUnion};
 ghost use Rattle.distinct_arguments.specs.declared.commands.Operator.TheVariants.{Union};
 ghost use Rattle.distinct_inputs.specs.Seeds.{AreSeeded};
-ghost use Rattle.distinct_inputs.specs.declared.failure.Failure.TheVariants as failure;
+ghost use Rattle.distinct_messages.specs.declared.failure.Failure.TheVariants as failure;
 
 use crate::commands::image_to_put;
 use crate::job::Job;
 use distinct_arguments::{Operator, Options};
-use distinct_inputs::{Console, Failure, Images, Remark, out_of_memory};
+use distinct_inputs::Images;
+use distinct_messages::{Console, Failure, Remark, out_of_memory};
 use estimates::Deviations;
 use keys_reports::report_of;
 use keys_sketches::{

@@ -15,8 +15,9 @@ ghost use Rattle.distinct_commands.specs.Eval.{IsEvaluated, IsEvaluatedBy, evalu
 ghost use Rattle.distinct_commands.specs.Failing.{IsOfNames, IsOfThetas, IsOfEvaluation};
 ghost use Rattle.distinct_commands.specs.Operands.{IsRead};
 ghost use Rattle.distinct_inputs.specs.Seeds.{AreSeeded};
-ghost use Rattle.distinct_inputs.specs.Failures.{IsOfReading, UnreadableIf};
-ghost use Rattle.distinct_inputs.specs.declared.failure.Failure.TheVariants as failure;
+ghost use Rattle.distinct_messages.specs.Failures.{UnreadableIf};
+ghost use Rattle.distinct_inputs.specs.Failures.{IsOfReading};
+ghost use Rattle.distinct_messages.specs.declared.failure.Failure.TheVariants as failure;
 
 use crate::combine::all_sketches;
 use crate::commands::image_in_form;
@@ -24,7 +25,8 @@ use crate::expression::Expression;
 use crate::job::Job;
 use crate::show::{head_of, shown_text};
 use distinct_arguments::Options;
-use distinct_inputs::{Console, Failure, Images, Inputs, out_of_memory};
+use distinct_inputs::{Images, Inputs};
+use distinct_messages::{Console, Failure, out_of_memory};
 use expression_evaluation::evaluate;
 use keys_lines::Hashing;
 use keys_sketches::{BLOCK, ReadError, Sources, TextReader, sketch_lines};
@@ -143,7 +145,7 @@ impl<'a, S: Sources + Drop> Job<'a, S> {
         let (alloc, options, seed) = (self.alloc, self.options, self.seed);
         let mut inputs = self.inputs;
         let mut sketches = Vec::new(alloc);
-        'sketch_each: for _ in 0..u64::MAX {
+        for _ in 0..u64::MAX {
             match next_lines(alloc, options, seed, &mut inputs, console)? {
                 Some(sketch) => sketches.push(sketch)?,
                 None => return Ok(sketches),

@@ -7,7 +7,8 @@ ghost use Rattle.distinct_commands.specs.Failing.{IsOfExpression, IsOfWords, IsN
 ghost use Rattle.distinct_commands.specs.Operands.{files_of, IsRead};
 
 use distinct_arguments::Fault;
-use distinct_inputs::{Failure, ListError, texts_of};
+use distinct_inputs::{ListError, texts_of};
+use distinct_messages::Failure;
 use expression_text::{Parsed, Reason, Step, SyntaxFault, parse};
 use std::alloc::Global;
 

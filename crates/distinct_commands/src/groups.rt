@@ -5,19 +5,21 @@ ghost use Rattle.keys_lines.specs.Lines.{lines_of_all};
 ghost use Rattle.keys_groups.specs.Groups.{HasGroups, AreLeft};
 ghost use Rattle.keys_groups.specs.declared.groups.Grouping.{Grouping};
 ghost use Rattle.distinct_arguments.specs.Faults.{options_of};
-ghost use Rattle.distinct_inputs.specs.Failures.{IsOfReading, UnreadableIf};
+ghost use Rattle.distinct_messages.specs.Failures.{UnreadableIf};
+ghost use Rattle.distinct_inputs.specs.Failures.{IsOfReading};
 ghost use Rattle.keys_groups.specs.Ranked.{AreRanked};
 ghost use Rattle.keys_groups.specs.Files.{AreFilesOf};
 ghost use Rattle.distinct_commands.specs.Groups.{grouping_of, group_text, group_line, groups_text, groups_head};
 ghost use Rattle.distinct_commands.specs.Groups.{group_estimate, chosen_order, AreOrdered};
 ghost use Rattle.distinct_commands.specs.Texts.{report_by};
-ghost use Rattle.distinct_inputs.specs.declared.failure.Failure.TheVariants as failure;
+ghost use Rattle.distinct_messages.specs.declared.failure.Failure.TheVariants as failure;
 
 use crate::commands::image_to_put;
 use crate::job::Job;
 use crate::show::{chosen_deviations, head_of};
 use distinct_arguments::{Form, Options, Order};
-use distinct_inputs::{Console, Failure, Inputs, out_of_memory};
+use distinct_inputs::Inputs;
+use distinct_messages::{Console, Failure, out_of_memory};
 use keys_groups::{
     Group, GroupFile, Grouping, Groups, Ranked, files_of, group_sources, image_line, ranked_text,
 };
@@ -89,7 +91,7 @@ impl<'a> GroupPrinter<'a> {
         ensures memory { IfErr result (λ f. f ≡ failure.Memory) }
     {
         let mut printed = Vec::new(self.alloc);
-        'each_group: for _ in 0..u64::MAX {
+        for _ in 0..u64::MAX {
             match groups.next_group() {
                 Ok(Some(group)) => {
                     let line = self.line(group.name.as_slice(), &group.sketch)?;
@@ -132,7 +134,7 @@ impl<'a> GroupPrinter<'a> {
         ensures memory { IfErr result (λ f. f ≡ failure.Memory) }
     {
         let mut ranked = Vec::new(self.alloc);
-        'each_group: for _ in 0..u64::MAX {
+        for _ in 0..u64::MAX {
             match groups.next_group() {
                 Ok(Some(group)) => {
                     let one = self.ranked(group)?;

@@ -3,14 +3,16 @@ ghost use Rattle.std.specs.Prelude.{◌≡◌, ◌++◌, false, None, Some, IfOk
 ghost use Rattle.distinct_arguments.specs.Faults.{options_of};
 ghost use Rattle.distinct_commands.specs.Answers.{AreShownByName, AreShown, IsShownOf};
 ghost use Rattle.distinct_inputs.specs.Lists.{names_of};
-ghost use Rattle.distinct_inputs.specs.Failures.{display_name, images_in, IsOfImages, UnreadableIf};
+ghost use Rattle.distinct_messages.specs.Failures.{display_name, UnreadableIf};
+ghost use Rattle.distinct_inputs.specs.Failures.{images_in, IsOfImages};
 ghost use Rattle.distinct_inputs.specs.Images.{remaining_images};
 ghost use Rattle.distinct_commands.specs.Texts.{chosen_deviations, count_text, shown_text, head_of};
 
 use crate::combine::next_sketch;
 use crate::job::Job;
 use distinct_arguments::{Form, Options};
-use distinct_inputs::{Failure, Images, display_name};
+use distinct_inputs::Images;
+use distinct_messages::{Failure, display_name};
 use estimates::Deviations;
 use keys_reports::{count_line, json_line, report_of, shown_line, tsv_head, tsv_row};
 use keys_sketches::Sources;

@@ -4,11 +4,12 @@ ghost use Rattle.sketch_base.specs.Seed.{seed_hash};
 ghost use Rattle.keys_lines.specs.Lines.{lines_of_all};
 ghost use Rattle.keys_groups.specs.United.{HasFirstFlawed, IsUnitedText};
 ghost use Rattle.distinct_arguments.specs.Faults.{options_of};
-ghost use Rattle.distinct_inputs.specs.Failures.{unites_groups, IsOfGroups, ReportsFlawed, UnreadableIf};
+ghost use Rattle.distinct_messages.specs.Failures.{UnreadableIf};
+ghost use Rattle.distinct_inputs.specs.Failures.{unites_groups, IsOfGroups, ReportsFlawed};
 
 use crate::job::Job;
 use distinct_arguments::{Operator, Options};
-use distinct_inputs::{Coarser, Console, Failure, Remark, out_of_memory};
+use distinct_messages::{Coarser, Console, Failure, Remark, out_of_memory};
 use keys_groups::{LineFlaw, UniteError, unite_groups, united_text};
 use keys_sketches::Sources;
 use std::alloc::Global;

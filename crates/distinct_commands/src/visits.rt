@@ -5,7 +5,7 @@ ghost use Rattle.keys_sums.specs.declared.addends.Amount.TheVariants.{One};
 ghost use Rattle.distinct_arguments.specs.Faults.{options_of};
 ghost use Rattle.keys_sums.specs.Unions.{IsUnitedSums, AreSumsOfTexts};
 ghost use Rattle.distinct_inputs.specs.Failures.{images_in, IsOfEitherUnion, IsOfSums, IsOfUniting, IsOfVisits};
-ghost use Rattle.distinct_inputs.specs.Failures.{UnreadableIf};
+ghost use Rattle.distinct_messages.specs.Failures.{UnreadableIf};
 ghost use Rattle.distinct_inputs.specs.Images.{images_of, remaining_images};
 ghost use Rattle.distinct_commands.specs.Visits.{visits_of, ranges_head, bin_text, bin_up_to, visits_text};
 ghost use Rattle.distinct_commands.specs.Visits.{IsVisitsOfImages, IsVisitsText};
@@ -14,7 +14,8 @@ use crate::combine::{remark_coarser, union_failure};
 use crate::job::Job;
 use crate::show::chosen_deviations;
 use distinct_arguments::{Form, Options};
-use distinct_inputs::{Console, Failure, Images};
+use distinct_inputs::Images;
+use distinct_messages::{Console, Failure};
 use keys_reports::{range_json_line, range_line, range_tsv_head, range_tsv_row, report_of_part};
 use keys_sketches::{ReadError, Sources};
 use keys_sums::{
@@ -93,7 +94,7 @@ fn visits_text(
 {
     let most = greatest_sum(visits) as u128;
     let mut text = ranges_head(alloc, options.form)?;
-    'each_bin: for bin in 0..BINS {
+    for bin in 0..BINS {
         put_bin(&mut text, alloc, options, visits, most, bin)?;
     }
     Ok(text)

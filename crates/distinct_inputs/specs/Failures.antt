@@ -1,8 +1,7 @@
 -- When each failure occurs.
 use Rattle.std.specs.Prelude.{ℕ, ◌≡◌, ◌≢◌, ◌⊎◌, ◌==◌, ◌&&◌, ⊤, Bool, true, false, List, [], ◌∷◌, length, Option}
-use Rattle.std.specs.Prelude.{Some, None, IfSome, is_none, unwrap_or, String, codes, string_bytes, if◌then◌else◌}
+use Rattle.std.specs.Prelude.{Some, None, IfSome, is_none, unwrap_or, String, string_bytes, if◌then◌else◌}
 use Rattle.std.specs.Option.{option_map}
-use Rattle.std.specs.Str.{bytes_eq}
 use Rattle.sketch_base.specs.declared.error.ErrorKind.TheVariants.{OutOfMemory, InvalidData, Policy}
 use Rattle.sketch_base.specs.Seed.{seed_hash}
 use Rattle.keys_lines.specs.Lines.{lines_of, lines_of_all}
@@ -16,7 +15,6 @@ use Rattle.keys_sums.specs.Amounts.{added_by}
 use Rattle.keys_sums.specs.Refusals.{HasNoNumberAt, IsPast}
 use Rattle.keys_sums.specs.declared.addends.Amount.{Amount}
 use Rattle.keys_sums.specs.declared.addends.Amount.TheVariants.{One, Number}
-use Rattle.distinct_arguments.specs.Faults.{fault_status}
 use Rattle.distinct_arguments.specs.declared.fault.Fault.TheVariants.{SumNeedsValue, ZeroSeed}
 use Rattle.distinct_arguments.specs.Settings.{chosen_key, chosen_value}
 use Rattle.std.specs.declared.io.Error.{Error}
@@ -30,27 +28,12 @@ use Rattle.distinct_arguments.specs.declared.commands.Operator.TheVariants.{Unio
 use Rattle.keys_groups.specs.United.{HasFirstFlawed}
 use Rattle.keys_groups.specs.declared.united.LineFlaw.{LineFlaw}
 use Rattle.keys_groups.specs.declared.united.LineFlaw.TheVariants.{NoTab as NoTabAtAll, NoHex as NoDigits, NoImage}
-use Rattle.distinct_inputs.specs.declared.failure.Failure.{Failure}
-use Rattle.distinct_inputs.specs.declared.failure.Failure.TheVariants.{NotText, Arguments, NoFiles, NotTwo}
-use Rattle.distinct_inputs.specs.declared.failure.Failure.TheVariants.{NoExpression, NoDir, NoName, NoNul, NoSeed}
-use Rattle.distinct_inputs.specs.declared.failure.Failure.TheVariants.{Terminal, WrongCount, Memory, Unreadable}
-use Rattle.distinct_inputs.specs.declared.failure.Failure.TheVariants.{NoSketch, NoSums, NoHex, NoTab, NoLine}
-use Rattle.distinct_inputs.specs.declared.failure.Failure.TheVariants.{PastGreatest, PastUnion, NotANumber}
-use Rattle.distinct_inputs.specs.declared.failure.Failure.TheVariants.{NotWritten}
-
--- the exit status: 2 if the arguments are wrong, else 1
-abbrev pub failure_status : Failure → ℕ
-failure_status (NotText number text) = 2
-failure_status (Arguments fault) = fault_status fault
-failure_status NoFiles = 2
-failure_status NotTwo = 2
-failure_status (NoExpression text fault) = 2
-failure_status Terminal = 2
-failure_status _ = 1
-
--- the name of a file in messages
-abbrev pub display_name : List ℕ → List ℕ
-display_name name = if bytes_eq name (codes "-") then codes "standard input" else name
+use Rattle.distinct_messages.specs.declared.failure.Failure.{Failure}
+use Rattle.distinct_messages.specs.declared.failure.Failure.TheVariants.{Arguments, NotTwo, NoDir, NoName, NoNul, NoSeed}
+use Rattle.distinct_messages.specs.declared.failure.Failure.TheVariants.{WrongCount, Memory, Unreadable}
+use Rattle.distinct_messages.specs.declared.failure.Failure.TheVariants.{NoSketch, NoSums, NoHex, NoTab, NoLine}
+use Rattle.distinct_messages.specs.declared.failure.Failure.TheVariants.{PastGreatest, PastUnion, NotANumber}
+use Rattle.distinct_messages.specs.declared.failure.Failure.TheVariants.{NotWritten}
 
 -- the next name is the current one, and the others are left; if no name is left, the current one stays
 abbrev pub NotesNext : {A : Type 0} → (current : List ℕ) → (left : List (String A)) → (new_current : List ℕ) → (new_left : List (String A)) → Type 0
@@ -94,12 +77,6 @@ ReportsFlawed name number flaw (NoTab file line) = (string_bytes file ≡ name) 
 ReportsFlawed name number flaw (NoHex file line) = (string_bytes file ≡ name) × (line ≡ number) × (flaw ≡ NoDigits)
 ReportsFlawed name number flaw (NoSketch file line kind) = (string_bytes file ≡ name) × (line ≡ number) × (flaw ≡ NoImage kind)
 ReportsFlawed name number flaw _ = ⊥
-
--- memory was refused, or the output of this name failed, for this reason
-abbrev pub ReportsNotWritten : (name : List ℕ) → Error → Failure → Type 0
-ReportsNotWritten name error Memory = ⊤
-ReportsNotWritten name error (NotWritten output reason) = (string_bytes output ≡ name) × (reason ≡ error)
-ReportsNotWritten name error _ = ⊥
 
 -- what each line adds to the sum of its key, if `sketch` writes sums: one, or the number in a part of it
 abbrev pub chosen_amount : OptionValues → Option Amount
@@ -170,11 +147,6 @@ IsOfTotalOf (Some field) options seed texts failure = IsOfSums options seed (Num
 abbrev pub IsOfTotal : OptionValues → (seed : ℕ) → (texts : Option (List (List ℕ))) → Failure → Type 0
 IsOfTotal options seed texts failure = IsOfTotalOf (chosen_value options) options seed texts failure
 
--- a file is reported to be unreadable only if files may fail
-abbrev pub UnreadableIf : (may_fail : Bool) → Failure → Type 0
-UnreadableIf may_fail (Unreadable name error) = may_fail ≡ true
-UnreadableIf may_fail _ = ⊤
-
 -- no names from the list of this name and, if they are known, of these bytes: memory was refused, the list can't be read,
 -- it has lines and no NUL byte, or the first name that can't be one has this number
 abbrev pub IsOfList : (name : List ℕ) → (list : Option (List ℕ)) → Failure → Type 0
@@ -199,12 +171,6 @@ abbrev pub IsOfDir : (name : List ℕ) → Failure → Type 0
 IsOfDir name Memory = ⊤
 IsOfDir name (NoDir folder error) = string_bytes folder ≡ name
 IsOfDir name _ = ⊥
-
--- memory was refused, or the output of this name failed
-abbrev pub IsOfWriting : (name : List ℕ) → Failure → Type 0
-IsOfWriting name Memory = ⊤
-IsOfWriting name (NotWritten output error) = string_bytes output ≡ name
-IsOfWriting name _ = ⊥
 
 -- there are not two images: each file is one, and this count of them is not two, or the images in the texts are not
 -- two, if these are known

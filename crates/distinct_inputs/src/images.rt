@@ -7,12 +7,12 @@ ghost use Rattle.keys_sketches.specs.Sources.{GivesNext};
 ghost use Rattle.distinct_inputs.specs.Images.{remaining_images, remaining_parts, only_image, image_flaw, is_followed};
 ghost use Rattle.distinct_inputs.specs.Images.{length_of, count_of, line_image};
 ghost use Rattle.distinct_inputs.specs.Images.{CountsLine, HasNoSketch, IsOnlyImage, GivesOrCloses, IsSameReader};
-ghost use Rattle.distinct_inputs.specs.Failures.{display_name, IsOfImages, IsOfReading, NotesNext, ReportsUnreadable};
-ghost use Rattle.distinct_inputs.specs.Failures.{ReportsNoSketch, ReportsPastUnion, UnreadableIf};
+ghost use Rattle.distinct_messages.specs.Failures.{display_name, UnreadableIf};
+ghost use Rattle.distinct_inputs.specs.Failures.{IsOfImages, IsOfReading, NotesNext, ReportsUnreadable};
+ghost use Rattle.distinct_inputs.specs.Failures.{ReportsNoSketch, ReportsPastUnion};
 
-use crate::failure::Failure;
 use crate::inputs::Inputs;
-use crate::remarks::Coarser;
+use distinct_messages::{Coarser, Failure};
 use keys_sketches::{
     Flaw, Sources, entry_count, flaw_of, image_length, read_hex, sums_count, sums_flaw_of,
     sums_length,
@@ -288,7 +288,7 @@ impl<'a, S: Sources> Images<'a, S> {
         ensures sums { OnOk result (self.new.sums ≡ self.old.sums) }
         ensures noted { IfOk result (λ image. IfSome image (λ v. count_of self.old.sums v.items ≤ self.new.most)) }
     {
-        'files: for _ in 0..u64::MAX {
+        for _ in 0..u64::MAX {
             if let Some(image) = self.line_of_open()? {
                 return Ok(Some(image));
             }

@@ -1,12 +1,12 @@
 //! The files that the program reads.
 ghost use Rattle.std.specs.Prelude.{◌≡◌, Bool, true, false, None, Some, IfOk, IfErr, IfSome, OnOk};
 ghost use Rattle.keys_sketches.specs.Sources.{GivesNext};
-ghost use Rattle.distinct_inputs.specs.Failures.{display_name, IsOfList, IsOfReading, NotesNext, ReportsUnreadable};
-ghost use Rattle.distinct_inputs.specs.Failures.{UnreadableIf};
+ghost use Rattle.distinct_inputs.specs.Failures.{IsOfList, IsOfReading, NotesNext, ReportsUnreadable};
+ghost use Rattle.distinct_messages.specs.Failures.{display_name, UnreadableIf};
 ghost use Rattle.distinct_inputs.specs.Lists.{are_lines, names_in, names_of};
 
-use crate::failure::Failure;
 use crate::lists::{ListError, names_in};
+use distinct_messages::{Failure, display_name};
 use keys_sketches::{Sources, TextReader};
 use std::alloc::Global;
 use std::fs::File;
@@ -38,16 +38,6 @@ impl TextReader for Input {
     fn may_fail() -> bool {
         true
     }
-}
-
-/// The name of standard input in messages.
-const STANDARD_INPUT: &str = "standard input";
-
-/// The name of a file in messages.
-pub fn display_name(name: &str) -> &str
-    ensures { result.now ≡ display_name name.now }
-{
-    if name == "-" { STANDARD_INPUT } else { name }
 }
 
 /// Opens the file of this name, or standard input for `-`.

@@ -61,7 +61,7 @@ pub fn names_in(alloc: Global, list: &[u8]) -> Result<Vec<String>, ListError>
 {
     let mut names = Vec::new(alloc);
     let mut rest = list;
-    'cut_each: while let Some((name, others)) = cut_at(rest, 0) {
+    while let Some((name, others)) = cut_at(rest, 0) {
         put_name(alloc, &mut names, name)?;
         rest = others;
     }
@@ -80,7 +80,7 @@ pub fn texts_of(alloc: Global, names: &[Vec<u8>]) -> Result<Vec<String>, ListErr
 {
     let mut texts = Vec::new(alloc);
     let mut left = names;
-    'put_each: while let Some((name, others)) = left.split_first() {
+    while let Some((name, others)) = left.split_first() {
         put_name(alloc, &mut texts, name.as_slice())?;
         left = others;
     }

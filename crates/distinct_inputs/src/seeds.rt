@@ -4,11 +4,12 @@ ghost use Rattle.sketch_base.specs.Seed.{seed_hash};
 ghost use Rattle.distinct_arguments.specs.Faults.{options_of};
 ghost use Rattle.distinct_arguments.specs.Settings.{seed_file};
 ghost use Rattle.distinct_inputs.specs.Seeds.{seed_in, IsSeedOf};
-ghost use Rattle.distinct_inputs.specs.Failures.{IsOfSeed, IsOfSeedFile, UnreadableIf};
+ghost use Rattle.distinct_messages.specs.Failures.{UnreadableIf};
+ghost use Rattle.distinct_inputs.specs.Failures.{IsOfSeed, IsOfSeedFile};
 
-use crate::failure::Failure;
-use crate::inputs::{display_name, open_input, read_whole};
+use crate::inputs::{open_input, read_whole};
 use distinct_arguments::{Fault, Options, Seed};
+use distinct_messages::{Failure, display_name};
 use keys_sketches::TextReader;
 use sketch_base::{ErrorKind, compute_seed_hash};
 use std::alloc::Global;

@@ -20,7 +20,7 @@ ghost use Rattle.distinct_commands.specs.Visits.{IsVisitsText};
 use crate::tests::words_of;
 use distinct_arguments::{Command, Operator, Options, Request, Seed, read_arguments};
 use distinct_commands::{Operands, answer, only_expression, perform};
-use distinct_inputs::{Console, Failure, Remark};
+use distinct_messages::{Console, Failure, Remark};
 use keys_groups::GroupWatch;
 use keys_sketches::{Texts, Watch, hex_line, read_hex};
 use sketch_base::{ErrorKind as SketchError, compute_seed_hash};

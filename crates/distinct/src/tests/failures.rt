@@ -1,6 +1,6 @@
 //! Tests of the messages and statuses of failures that no case of `tests/distinct` has.
 use distinct_arguments::Fault;
-use distinct_inputs::Failure;
+use distinct_messages::Failure;
 use std::alloc::{AllocError, Global};
 use std::io::{Error, ErrorKind};
 use std::test::Fail;

@@ -1,6 +1,7 @@
 use Rattle.std.specs.Prelude.{map, length, string_bytes, IfErr}
 use Rattle.std.proofs.lemmas.Result.{err_from_is_err_and}
-use Rattle.distinct_inputs.specs.Failures.{display_name, IsOfImages}
+use Rattle.distinct_messages.specs.Failures.{display_name}
+use Rattle.distinct_inputs.specs.Failures.{IsOfImages}
 use Rattle.std.proofs.Common.{◌≡◌, ℕ, false, List, ◌++◌, sym, ap, subst, ◌∙◌, arith}
 use Rattle.distinct_inputs.specs.Images.{remaining_images}
 use Rattle.distinct_commands.specs.Texts.{shown_text}

@@ -6,5 +6,5 @@ use Rattle.distinct_commands.specs.Groups.{groups_text}
 use Rattle.distinct_commands.proofs.groups.GroupPrinter.groups_text.Given as goal
 
 -- the lines so far, followed by those of the groups that are left, are all lines
-abbrev pub invariant-each_group : goal.invariant-each_group
-invariant-each_group l = (grouping : Grouping) (lines names : List (List ℕ)) → AreLeft grouping lines names l.fn.groups → (left : List (List ℕ)) × AreLeft grouping lines left l.groups × (groups_text l.self.images (options_of l.self.options.now) grouping lines names ≡ l.printed.items ++ groups_text l.self.images (options_of l.self.options.now) grouping lines left)
+abbrev pub invariant-loop : goal.invariant-loop
+invariant-loop l = (grouping : Grouping) (lines names : List (List ℕ)) → AreLeft grouping lines names l.fn.groups → (left : List (List ℕ)) × AreLeft grouping lines left l.groups × (groups_text l.self.images (options_of l.self.options.now) grouping lines names ≡ l.printed.items ++ groups_text l.self.images (options_of l.self.options.now) grouping lines left)

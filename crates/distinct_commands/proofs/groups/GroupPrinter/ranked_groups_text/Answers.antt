@@ -7,20 +7,20 @@ use Rattle.distinct_commands.specs.Texts.{report_by}
 use Rattle.distinct_commands.proofs.GroupLines.{none_has_texts, group_added}
 use Rattle.distinct_commands.proofs.groups.GroupPrinter.ranked_groups_text.Goals as goal
 
-pub each_group-init : goal.each_group-init
-each_group-init c = λ grouping lines names left.
+pub loop-init : goal.loop-init
+loop-init c = λ grouping lines names left.
     let options = options_of c.args.self.options.now in
     let estimate = group_estimate options grouping lines in
     let line = λ (name : List ℕ). group_line c.args.self.images options name (group_sketch grouping lines name) in
     ([], names, left, refl, subst (HasTexts estimate line []) (sym c.new-ranked.ensures.items) (none_has_texts estimate line))
 
-pub each_group-preserved : goal.each_group-preserved
-each_group-preserved c = λ grouping lines names all_left.
+pub loop-preserved : goal.loop-preserved
+loop-preserved c = λ grouping lines names all_left.
     let options = options_of c.args.self.options.now in
     let images = c.args.self.images in
     let estimate = group_estimate options grouping lines in
     let line = λ (name : List ℕ). group_line images options name (group_sketch grouping lines name) in
-    let so_far = c.each_group.invariant grouping lines names all_left in
+    let so_far = c.loop.invariant grouping lines names all_left in
     let next = subst (IsNext grouping lines so_far.1 c.next_group.new.self) c.in-Ok-Some.field-0-is (c.in-Ok-Some.ensures.next grouping lines so_far.1 so_far.2) in
     let name = c.in-Ok-Some.group.name.items in
     let one = c.in_ok-one-in-Ok-Some.one in
@@ -30,7 +30,7 @@ each_group-preserved c = λ grouping lines names all_left.
       next.3,
       so_far.3 ∙ ap (λ ns. so_far.0 ++ ns) next.1 ∙ sym (append_assoc so_far.0 (name ∷ []) next.0),
       subst (HasTexts estimate line (so_far.0 ++ name ∷ [])) (sym c.in_ok-push-in-Ok-Some.ensures.items)
-          (group_added estimate line so_far.0 c.each_group.ranked.items one name so_far.4 made.name
+          (group_added estimate line so_far.0 c.loop.ranked.items one name so_far.4 made.name
           (made.estimate ∙ ap (λ s. (report_by options s).estimate) next.2)
           (made.text ∙ ap (group_line images options name) next.2)),
     )
@@ -40,7 +40,7 @@ returns-in-Ok-None-clause-printed c = λ grouping lines names all_left.
     let options = options_of c.args.self.options.now in
     let estimate = group_estimate options grouping lines in
     let line = λ (name : List ℕ). group_line c.args.self.images options name (group_sketch grouping lines name) in
-    let so_far = c.each_group.invariant grouping lines names all_left in
+    let so_far = c.loop.invariant grouping lines names all_left in
     let none = subst (IsNext grouping lines so_far.1 c.next_group.new.self) c.in-Ok-None.field-0-is (c.in-Ok-None.ensures.next grouping lines so_far.1 so_far.2) in
     let all : names ≡ so_far.0 = so_far.3 ∙ ap (λ ns. so_far.0 ++ ns) none ∙ append-nil so_far.0 in
-    c.in_ok-ranked_text-in-Ok-None.ensures estimate line names (subst (λ (ns : List (List ℕ)). HasTexts estimate line ns c.each_group.ranked.items) (sym all) so_far.4)
+    c.in_ok-ranked_text-in-Ok-None.ensures estimate line names (subst (λ (ns : List (List ℕ)). HasTexts estimate line ns c.loop.ranked.items) (sym all) so_far.4)

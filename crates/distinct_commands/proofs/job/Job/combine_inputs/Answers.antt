@@ -7,7 +7,8 @@ use Rattle.theta_sketches.specs.Image.{written}
 use Rattle.distinct_arguments.specs.Faults.{options_of}
 use Rattle.distinct_arguments.specs.declared.commands.Operator.{Operator}
 use Rattle.distinct_commands.specs.Answers.{IsCombinedOf, IsIntersectionImage, IsExpected, intersection_of}
-use Rattle.distinct_inputs.specs.Failures.{unites_sums, AreCounted, IsOfCombining, IsOfImages, UnreadableIf}
+use Rattle.distinct_messages.specs.Failures.{UnreadableIf}
+use Rattle.distinct_inputs.specs.Failures.{unites_sums, AreCounted, IsOfCombining, IsOfImages}
 use Rattle.distinct_inputs.specs.Images.{images_of, remaining_images}
 use Rattle.distinct_commands.proofs.Failing.{not_combined, not_united}
 use Rattle.distinct_commands.proofs.NextImages.{all_hold, all_images, met_of_known, not_two, count_read}

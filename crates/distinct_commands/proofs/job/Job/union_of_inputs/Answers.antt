@@ -3,7 +3,8 @@ use Rattle.std.specs.Prelude.{IfErr}
 use Rattle.std.proofs.lemmas.Result.{err_from_is_err_and}
 use Rattle.std.specs.Option.{option_map}
 use Rattle.distinct_arguments.specs.Faults.{options_of}
-use Rattle.distinct_inputs.specs.Failures.{AreCounted, IsOfEitherUnion, UnreadableIf}
+use Rattle.distinct_messages.specs.Failures.{UnreadableIf}
+use Rattle.distinct_inputs.specs.Failures.{AreCounted, IsOfEitherUnion}
 use Rattle.distinct_inputs.specs.Images.{images_of, remaining_images}
 use Rattle.distinct_commands.proofs.NextImages.{all_images}
 use Rattle.distinct_commands.proofs.OnlyMemory.{policy_of_sums, data_of_images}

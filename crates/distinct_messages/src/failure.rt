@@ -2,8 +2,8 @@
 ghost use Rattle.std.specs.Prelude.{◌≡◌};
 ghost use Rattle.sketch_base.specs.declared.error.ErrorKind.TheVariants.{OutOfMemory};
 ghost use Rattle.distinct_arguments.specs.declared.fault.Fault.{Fault};
-ghost use Rattle.distinct_inputs.specs.Failures.{failure_status};
-ghost use Rattle.distinct_inputs.specs.declared.failure.Failure.TheVariants as failure;
+ghost use Rattle.distinct_messages.specs.Failures.{failure_status, display_name};
+ghost use Rattle.distinct_messages.specs.declared.failure.Failure.TheVariants as failure;
 
 use distinct_arguments::{Escaped, Fault};
 use expression_text::{MAX_LEVELS, Reason, SyntaxFault};
@@ -91,6 +91,16 @@ pub fn out_of_memory(error: Error) -> Failure
 {
     let _ = error;
     Failure::Memory
+}
+
+/// The name of standard input in messages.
+const STANDARD_INPUT: &str = "standard input";
+
+/// The name of a file in messages.
+pub fn display_name(name: &str) -> &str
+    ensures { result.now ≡ display_name name.now }
+{
+    if name == "-" { STANDARD_INPUT } else { name }
 }
 
 /// The most bytes of a file's name that a message prints; a character that begins within them is printed whole.
@@ -370,7 +380,7 @@ impl fmt::Display for Failure {
 }
 
 impl From<Fault> for Failure {
-    ghost use Rattle.distinct_inputs.specs.declared.failure.Failure.TheVariants.{Arguments};
+    ghost use Rattle.distinct_messages.specs.declared.failure.Failure.TheVariants.{Arguments};
 
     ghost from_gives = { λ fault failure. failure ≡ Arguments fault };
 
@@ -380,7 +390,7 @@ impl From<Fault> for Failure {
 }
 
 impl From<AllocError> for Failure {
-    ghost use Rattle.distinct_inputs.specs.declared.failure.Failure.TheVariants.{Memory};
+    ghost use Rattle.distinct_messages.specs.declared.failure.Failure.TheVariants.{Memory};
 
     ghost from_gives = { λ _ e. e ≡ Memory };
 
@@ -390,7 +400,7 @@ impl From<AllocError> for Failure {
 }
 
 impl<T: Drop> From<AllocFailed<T>> for Failure {
-    ghost use Rattle.distinct_inputs.specs.declared.failure.Failure.TheVariants.{Memory};
+    ghost use Rattle.distinct_messages.specs.declared.failure.Failure.TheVariants.{Memory};
 
     ghost from_gives = { λ _ e. e ≡ Memory };
 

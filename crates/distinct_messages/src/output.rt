@@ -1,10 +1,9 @@
 //! Writing answers.
 ghost use Rattle.std.specs.Prelude.{OnOk, IfErr, Bool};
 ghost use Rattle.std.specs.Io.KnownBytes.{Appends};
-ghost use Rattle.distinct_inputs.specs.Failures.{IsOfWriting, ReportsNotWritten, UnreadableIf};
+ghost use Rattle.distinct_messages.specs.Failures.{IsOfWriting, ReportsNotWritten, UnreadableIf};
 
 use crate::failure::Failure;
-use keys_groups::GroupFile;
 use std::alloc::Global;
 use std::io;
 use std::io::Write;
