@@ -54,7 +54,7 @@ pub fn evaluate<F: SketchFamily<A>, A: Allocator + Clone, B: Allocator>(
 {
     match plan {
         Plan::Leaf { lg_k, start, steps } => {
-            let sketch = updated(family, alloc, *lg_k, *start, steps.as_slice(), seed)?;
+            let sketch = sketch_after(family, alloc, *lg_k, *start, steps.as_slice(), seed)?;
             Ok(Evaluated::Mutable(sketch))
         }
         Plan::Union { lg_k, start, parts } => {
@@ -68,7 +68,7 @@ pub fn evaluate<F: SketchFamily<A>, A: Allocator + Clone, B: Allocator>(
                     UnionPart::Lower(fewer) => family.lower(&mut union, *fewer)?,
                 }
             }
-            let answer = family.joined(&union, ordered)?;
+            let answer = family.union_value(&union, ordered)?;
             Ok(Evaluated::Compact(answer))
         }
         Plan::Meet { parts } => {
@@ -92,7 +92,7 @@ pub fn evaluate<F: SketchFamily<A>, A: Allocator + Clone, B: Allocator>(
         Plan::Via { ordered: own, part } => {
             let asked = *own || ordered;
             let a = evaluate(family, alloc, part.get(), seed, asked)?;
-            let sketch = compacted(family, a, asked)?;
+            let sketch = into_compact(family, a, asked)?;
             let answer = family.through_image(alloc.clone()?, sketch, seed)?;
             Ok(Evaluated::Compact(answer))
         }
@@ -101,7 +101,7 @@ pub fn evaluate<F: SketchFamily<A>, A: Allocator + Clone, B: Allocator>(
 
 /// The result of a node as a compact sketch; a leaf's is ordered if `ordered` is set. Refused with `OutOfMemory`
 /// alone.
-pub fn compacted<F: SketchFamily<A>, A: Allocator>(
+pub fn into_compact<F: SketchFamily<A>, A: Allocator>(
     family: &F,
     evaluated: Evaluated<F::Sketch, F::Compact>,
     ordered: bool,
@@ -141,7 +141,7 @@ fn shared<F: SketchFamily<A>, A: Allocator + Clone>(
 }
 
 /// A new sketch after steps.
-fn updated<F: SketchFamily<A>, A: Allocator + Clone>(
+fn sketch_after<F: SketchFamily<A>, A: Allocator + Clone>(
     family: &F,
     alloc: &A,
     lg_k: u8,

@@ -178,7 +178,7 @@ pub trait SketchFamily<A: Allocator> {
         ensures refused { Refuses result (lower_refusal (united union.old) lg_k) true };
 
     /// The value of a union that has not failed. Refused with `OutOfMemory` alone.
-    fn joined(&self, union: &Self::Union, ordered: bool) -> Result<Self::Compact, Error>
+    fn union_value(&self, union: &Self::Union, ordered: bool) -> Result<Self::Compact, Error>
         requires at_work { (united union.now).failed ≡ false }
         ensures ok { IfOk result (λ c.
             IsAnswer (rules self.now).key (union_value (rules self.now).key (united union.now))

@@ -26,7 +26,7 @@ ghost use Rattle.core_compact.specs.CompactState.{ordered_sketch};
 ghost use Rattle.plan_evaluation.specs.Answered.{HasKeys, IsOrderedSketchOf};
 ghost use Rattle.plan_evaluation.specs.Refused.{IsPlanRefused};
 
-use crate::evaluate::{compacted, evaluate};
+use crate::evaluate::{evaluate, into_compact};
 use crate::family::SketchFamily;
 use crate::theta::ThetaFamily;
 use crate::tuple::TupleFamily;
@@ -70,7 +70,7 @@ pub fn evaluate_theta<A: Allocator + Clone, B: Allocator>(
         → OnOk result (value_of plan.now ≡ NonEmpty (kmin (2 ^ lg_k) (added steps) start)) }
     ensures refused { Refuses result (plan_refusal seed plan.now) true }
 {
-    ordered(&ThetaFamily, &alloc, plan, seed)
+    ordered_sketch(&ThetaFamily, &alloc, plan, seed)
 }
 
 /// The sketch of a plan of tuples under a seed and two policies, ordered. In leaves, `update_policy` makes and
@@ -144,7 +144,7 @@ pub fn evaluate_tuple<
         ⊎ ((e ≡ OutOfMemory) ⊎ ((e ≡ Policy) × (may_refuse f seed plan.now ≡ true)))) }
 {
     let family = TupleFamily::new(update_policy, combine_policy);
-    ordered(&family, &alloc, plan, seed)
+    ordered_sketch(&family, &alloc, plan, seed)
 }
 
 /// The sketch of a plan of tuples whose summaries are sums: a leaf adds each value of a key to its summary, from 0
@@ -205,7 +205,7 @@ pub fn evaluate_sums<
 }
 
 /// The sketch of a plan in a family, ordered.
-fn ordered<F: SketchFamily<A>, A: Allocator + Clone, B: Allocator>(
+fn ordered_sketch<F: SketchFamily<A>, A: Allocator + Clone, B: Allocator>(
     family: &F,
     alloc: &A,
     plan: &Plan<F::Value, B>,
@@ -221,5 +221,5 @@ fn ordered<F: SketchFamily<A>, A: Allocator + Clone, B: Allocator>(
         (IsPlanRefused (folds_of (F.rules family.now) (F.refuses family.now)) F.strict seed plan.now) }
 {
     let sketch = evaluate(family, alloc, plan, seed, true)?;
-    compacted(family, sketch, true)
+    into_compact(family, sketch, true)
 }

@@ -4,7 +4,7 @@ use Rattle.plan_values.specs.Family.{folds_of}
 use Rattle.plan_values.proofs.KnownFamilies.{folds_keep}
 use Rattle.plan_evaluation.proofs.evaluation.LeafSteps.{made_stepped, kept_stepped, unrefused_stepped, empty_stepped, refused_stepped}
 use Rattle.plan_evaluation.proofs.evaluation.Results.{for_other}
-use Rattle.plan_evaluation.proofs.evaluate.updated.Goals as goal
+use Rattle.plan_evaluation.proofs.evaluate.sketch_after.Goals as goal
 
 pub returns-in_err-apply-clause-refused : goal.returns-in_err-apply-clause-refused
 returns-in_err-apply-clause-refused g c =

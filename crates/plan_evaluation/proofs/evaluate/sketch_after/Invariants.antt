@@ -6,7 +6,7 @@ use Rattle.core_laws.specs.Leaf.{leaf_from, is_updated}
 use Rattle.core_table.specs.HashTable.{empty_table}
 use Rattle.plan_values.specs.Family.{folds_of}
 use Rattle.plan_values.specs.Refusals.{steps_refused}
-use Rattle.plan_evaluation.proofs.evaluate.updated.Given as goal
+use Rattle.plan_evaluation.proofs.evaluate.sketch_after.Given as goal
 
 -- in folds, the sketch is a new one after the loop-step so far, none of which is refused
 abbrev pub invariant-loop-step : goal.invariant-loop-step
