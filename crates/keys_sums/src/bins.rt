@@ -53,6 +53,7 @@ pub fn count_in<A: Allocator>(sketch: &CompactTupleSketch<u64, A>, bin: u32) -> 
     ensures counted { result ≡ length (keys_in bin sketch.now).entries }
     ensures limited { result < 2 ^ 32 }
 {
+    // By its contract there are fewer than 2^32 entries.
     let _ = sketch.num_retained();
     let mut count = 0usize;
     for entry in sketch.iter() {
