@@ -1,0 +1,155 @@
+//! Sketches with a policy of your own: a theta sketch of the C library decides which hashes are retained, and a map
+//! keeps their summaries.
+
+use super::policy::{SummaryPolicy, SummaryUpdatePolicy};
+use super::TupleEntry;
+use crate::border::{self, State};
+use crate::error::{must, Error};
+use crate::settings::Checked;
+use std::collections::hash_map::{Entry, HashMap};
+
+/// The entries by their hashes. The map hashes them again, under a key of its own, since a caller may choose them.
+pub(super) type Map<S> = HashMap<u64, TupleEntry<S>>;
+
+/// A sketch that takes updates. Between calls the map has exactly the hashes that the theta sketch retains.
+pub(super) struct OwnSketch<S> {
+    keys: border::Theta,
+    map: Map<S>,
+    settings: Checked,
+    /// The theta that the theta sketch begins at after a reset.
+    start: u64,
+    /// The theta below which hashes are retained; that of an empty sketch too.
+    theta: u64,
+    empty: bool,
+}
+
+impl<S> OwnSketch<S> {
+    pub(super) fn new(settings: Checked) -> Result<Self, Error> {
+        let keys = border::Theta::new(settings.lg_k, settings.seed, settings.factor, settings.start)?;
+        let (start, theta) = (settings.start, settings.start);
+        Ok(Self { keys, map: Map::new(), settings, start, theta, empty: true })
+    }
+
+    /// The sketch of these entries. They are those of a sketch with these settings, so no more than it can have.
+    pub(super) fn of_entries(
+        settings: Checked,
+        state: State,
+        entries: impl Iterator<Item = TupleEntry<S>>,
+    ) -> Result<Self, Error> {
+        let start = if state.is_empty() { settings.start } else { state.theta };
+        let mut sketch = Self::new(Checked { start, ..settings })?;
+        sketch.settings = settings;
+        sketch.map.extend(entries.map(|it| (it.hash(), it)));
+        let hashes: Vec<u64> = sketch.map.keys().copied().collect();
+        sketch.keys.update_hashes(&hashes)?;
+        if !state.is_empty() {
+            sketch.keys.update_hash(0)?;
+            sketch.empty = false;
+        }
+        Ok(sketch)
+    }
+
+    pub(super) fn keys(&self) -> &border::Theta {
+        &self.keys
+    }
+
+    pub(super) fn map(&self) -> &Map<S> {
+        &self.map
+    }
+
+    pub(super) fn seed_hash(&self) -> u16 {
+        self.settings.seed_hash
+    }
+
+    pub(super) fn state(&self) -> State {
+        if self.empty {
+            State::EMPTY
+        } else {
+            State { retained: self.map.len() as u64, theta: self.theta, empty: 0 }
+        }
+    }
+
+    /// Follows the theta sketch after a call that may have lowered its theta.
+    fn follow(&mut self) {
+        let state = self.keys.state_of_own();
+        if state.theta < self.theta {
+            self.theta = state.theta;
+            self.map.retain(|hash, _| *hash < state.theta);
+        }
+    }
+
+    pub(super) fn update<P, U>(&mut self, policy: &P, key: &[u8], value: U) -> Result<(), Error>
+    where
+        P: SummaryUpdatePolicy<U, Summary = S>,
+    {
+        let hash = border::hash_of_bytes(self.settings.seed, key);
+        if hash == 0 || hash >= self.theta {
+            // Once the sketch is nonempty, such a hash changes nothing.
+            if self.empty {
+                self.keys.update_hash(hash)?;
+                self.empty = false;
+            }
+            return Ok(());
+        }
+        self.map.try_reserve(1).map_err(|_| Error::out_of_memory())?;
+        let nominal = 1 << self.settings.lg_k;
+        let many = self.map.len() >= nominal;
+        match self.map.entry(hash) {
+            Entry::Occupied(mut kept) => {
+                policy.update(&mut kept.get_mut().summary, value);
+                return Ok(());
+            }
+            Entry::Vacant(place) => {
+                let mut summary = policy.create();
+                policy.update(&mut summary, value);
+                self.keys.update_hash(hash)?;
+                place.insert(TupleEntry::of(hash, summary));
+            }
+        }
+        self.empty = false;
+        // Up to the nominal entries theta stays.
+        if many {
+            self.follow();
+        }
+        Ok(())
+    }
+
+    pub(super) fn trim(&mut self) -> Result<(), Error> {
+        self.keys.trim()?;
+        if !self.empty {
+            self.follow();
+        }
+        Ok(())
+    }
+
+    pub(super) fn reset(&mut self) {
+        if self.start == self.settings.start {
+            self.keys.reset();
+        } else {
+            // The theta sketch was made to begin where its entries were.
+            self.start = self.settings.start;
+            self.keys = must(border::Theta::new(
+                self.settings.lg_k,
+                self.settings.seed,
+                self.settings.factor,
+                self.settings.start,
+            ));
+        }
+        self.map.clear();
+        self.theta = self.settings.start;
+        self.empty = true;
+    }
+}
+
+/// The entries of a map that the hashes name, in their order. Every hash is in the map.
+pub(super) fn entries_at<S: Clone>(map: &Map<S>, hashes: &[u64]) -> Result<Vec<TupleEntry<S>>, Error> {
+    let mut entries = Vec::new();
+    entries.try_reserve_exact(hashes.len()).map_err(|_| Error::out_of_memory())?;
+    entries.extend(hashes.iter().map(|hash| map[hash].clone()));
+    Ok(entries)
+}
+
+/// Whether a policy is the one of this name, whose sums the C library has.
+pub(super) fn is_policy<P: SummaryPolicy, Q: 'static>() -> bool {
+    border::is_same::<P, Q>()
+}

@@ -1,0 +1,241 @@
+//! The union, and its builder.
+
+use super::own::{entries_at, is_policy, Map};
+use super::policy::{DefaultUnionPolicy, SummaryCombinePolicy};
+use super::view::Viewed;
+use super::{CompactTupleSketch, TupleSketchView};
+use crate::border::{self, State};
+use crate::common::ResizeFactor;
+use crate::error::{must, Error, ErrorKind};
+use crate::images::{hashes_of, preamble, theta_image, TUPLE};
+use crate::settings::{setters, Checked, Settings, Start};
+use crate::state::MAX_THETA;
+use std::collections::hash_map::Entry;
+use std::fmt;
+use std::mem::size_of;
+
+/// A union of tuple sketches: the keys of all of them below their least theta, at most k of them, and beside each the
+/// summaries of all sketches, combined by the policy in the order of the sketches.
+///
+/// ```
+/// use kaftanclay::tuple::{DefaultUnionPolicy, DefaultUpdatePolicy, TupleSketchBuilder, TupleUnionBuilder};
+///
+/// let mut monday = TupleSketchBuilder::new(DefaultUpdatePolicy::<u64>::default()).build().unwrap();
+/// let mut tuesday = TupleSketchBuilder::new(DefaultUpdatePolicy::<u64>::default()).build().unwrap();
+/// monday.update("ann", 2);
+/// tuesday.update("ann", 3);
+/// let mut both = TupleUnionBuilder::new(DefaultUnionPolicy::<u64>::default()).build().unwrap();
+/// both.update(&monday).unwrap();
+/// both.update(&tuesday).unwrap();
+/// assert_eq!(both.to_sketch(true).iter().next().unwrap().summary(), &5);
+/// ```
+pub struct TupleUnion<P: SummaryCombinePolicy> {
+    store: Store<P::Summary>,
+    settings: Checked,
+    /// Whether the starting theta has been merged: no call makes a union that begins at one.
+    begun: bool,
+    policy: P,
+}
+
+enum Store<S> {
+    /// The C library's; then the policy adds numbers, and S is u64.
+    Sums(border::SumsUnion),
+    Own(OwnUnion<S>),
+}
+
+struct OwnUnion<S> {
+    keys: border::Union,
+    /// The summaries of all hashes that the union of the keys retains, and perhaps of others that were below `bound`.
+    map: Map<S>,
+    /// At least the theta of the union of the keys.
+    bound: u64,
+    /// Whether the map has all of them: not if a policy stopped in the middle of an update.
+    whole: bool,
+}
+
+impl<P: SummaryCombinePolicy> fmt::Debug for TupleUnion<P> {
+    fn fmt(&self, f: &mut fmt::Formatter<'_>) -> fmt::Result {
+        f.debug_struct("TupleUnion").field("lg_k", &self.settings.lg_k).finish_non_exhaustive()
+    }
+}
+
+impl<P: SummaryCombinePolicy> TupleUnion<P> {
+    /// Merges a sketch. An empty one changes nothing.
+    ///
+    /// # Errors
+    ///
+    /// `InvalidArgument` for a nonempty sketch of another seed; the union is unchanged then. `OutOfMemory`, and
+    /// `Policy` if a sum of the C library would be 2^64 or more; then the union has failed, and returns `Failed` until
+    /// it is reset. So it does after a policy of your own has panicked.
+    pub fn update<'a>(&mut self, sketch: impl Into<TupleSketchView<'a, P::Summary>>) -> Result<(), Error>
+    where
+        P::Summary: Clone + 'a,
+    {
+        let view = sketch.into();
+        view.check_seed(self.settings.seed_hash)?;
+        match &mut self.store {
+            Store::Sums(object) => match (view.0, view.compact_sums()) {
+                (Viewed::Sums(sketch), _) => object.add(sketch.object())?,
+                (_, Some(form)) => object.add_form(form)?,
+                _ => object.add_image(&view.sums_image()?)?,
+            },
+            Store::Own(union) => union.update(&self.policy, self.settings.lg_k, view)?,
+        }
+        if !self.begun && !view.is_empty() {
+            self.begin()?;
+        }
+        Ok(())
+    }
+
+    /// Merges a sketch that retains nothing, at the starting theta.
+    fn begin(&mut self) -> Result<(), Error> {
+        let (start, seed_hash) = (self.settings.start, self.settings.seed_hash);
+        if start < MAX_THETA {
+            let state = State { retained: 0, theta: start, empty: 0 };
+            match &mut self.store {
+                Store::Sums(object) => object.add_image(&preamble(TUPLE, state, true, seed_hash, 0)?)?,
+                Store::Own(union) => {
+                    union.keys.add_image(&theta_image(state, true, seed_hash, std::iter::empty())?)?;
+                    union.bound = union.bound.min(start);
+                }
+            }
+        }
+        self.begun = true;
+        Ok(())
+    }
+
+    /// The union's value as a compact sketch; `ordered` as in [`TupleSketch::compact`](super::TupleSketch::compact).
+    ///
+    /// # Panics
+    ///
+    /// If memory is refused or the union has failed; [`try_to_sketch`](Self::try_to_sketch) returns that as an error.
+    pub fn to_sketch(&self, ordered: bool) -> CompactTupleSketch<P::Summary>
+    where
+        P::Summary: Clone,
+    {
+        must(self.try_to_sketch(ordered))
+    }
+
+    /// The union's value.
+    ///
+    /// # Errors
+    ///
+    /// `Failed` if the union has failed; `OutOfMemory`.
+    pub fn try_to_sketch(&self, ordered: bool) -> Result<CompactTupleSketch<P::Summary>, Error>
+    where
+        P::Summary: Clone,
+    {
+        let seed_hash = self.settings.seed_hash;
+        match &self.store {
+            Store::Sums(object) => Ok(CompactTupleSketch::of_sums(object.result()?, seed_hash, ordered)),
+            Store::Own(union) => {
+                union.check_whole()?;
+                let keys = union.keys.result()?;
+                let entries = entries_at(&union.map, &hashes_of(&keys.image()?)?)?;
+                Ok(CompactTupleSketch::of_entries(keys.state(), seed_hash, ordered, entries))
+            }
+        }
+    }
+
+    /// Makes the union empty again, as when it was new, and ends a failure.
+    pub fn reset(&mut self) {
+        match &mut self.store {
+            Store::Sums(object) => object.reset_union(),
+            Store::Own(union) => {
+                union.keys.reset_union();
+                union.map.clear();
+                union.bound = MAX_THETA;
+                union.whole = true;
+            }
+        }
+        self.begun = false;
+    }
+
+    /// How many bytes of memory the slots have at most, and the summaries, without what these point to.
+    pub fn estimated_size(&self) -> usize {
+        let slots = 1 << (self.settings.lg_k + 1);
+        size_of::<P>()
+            + match &self.store {
+                Store::Sums(_) => 24 * slots,
+                Store::Own(union) => {
+                    8 * slots + union.map.capacity() * size_of::<(u64, super::TupleEntry<P::Summary>)>()
+                }
+            }
+    }
+}
+
+impl<S: Clone> OwnUnion<S> {
+    fn update<P>(&mut self, policy: &P, lg_k: u8, view: TupleSketchView<'_, S>) -> Result<(), Error>
+    where
+        P: SummaryCombinePolicy<Summary = S>,
+    {
+        self.check_whole()?;
+        let state = view.state();
+        let entries = view.entries()?;
+        self.map.try_reserve(state.retained as usize).map_err(|_| Error::out_of_memory())?;
+        match view.0 {
+            Viewed::Own(sketch) => self.keys.add(sketch.keys())?,
+            _ => self.keys.add_image(&view.key_image()?)?,
+        }
+        self.whole = false;
+        self.bound = self.bound.min(state.theta);
+        for entry in entries.filter(|it| it.hash() < self.bound) {
+            match self.map.entry(entry.hash()) {
+                Entry::Occupied(mut kept) => policy.combine(&mut kept.get_mut().summary, entry.summary()),
+                Entry::Vacant(place) => {
+                    place.insert(entry.clone());
+                }
+            }
+        }
+        self.whole = true;
+        // The map may keep k hashes that the union has dropped, and no more.
+        if self.map.len() > 2 << lg_k {
+            self.bound = self.bound.min(self.keys.result()?.state().theta);
+            let bound = self.bound;
+            self.map.retain(|hash, _| *hash < bound);
+        }
+        Ok(())
+    }
+}
+
+impl<S> OwnUnion<S> {
+    fn check_whole(&self) -> Result<(), Error> {
+        if self.whole {
+            Ok(())
+        } else {
+            Err(Error::new(ErrorKind::Failed, "a policy panicked in an earlier update of the union: reset the union"))
+        }
+    }
+}
+
+/// Builds a [`TupleUnion`]. Settings are checked by [`build`](Self::build).
+#[derive(Debug)]
+pub struct TupleUnionBuilder<P: SummaryCombinePolicy> {
+    settings: Settings,
+    policy: P,
+}
+
+impl<P: SummaryCombinePolicy> TupleUnionBuilder<P> {
+    /// A builder of unions with this policy.
+    pub fn new(policy: P) -> Self {
+        Self { settings: Settings::default(), policy }
+    }
+
+    setters!();
+
+    /// Builds the union.
+    ///
+    /// # Errors
+    ///
+    /// `InvalidArgument` if a setting is out of range or the hash of the seed is 0; `OutOfMemory`.
+    pub fn build(self) -> Result<TupleUnion<P>, Error> {
+        let settings = self.settings.checked()?;
+        let store = if is_policy::<P, DefaultUnionPolicy<u64>>() {
+            Store::Sums(border::SumsUnion::union(settings.lg_k, settings.seed)?)
+        } else {
+            let keys = border::Union::union(settings.lg_k, settings.seed)?;
+            Store::Own(OwnUnion { keys, map: Map::new(), bound: MAX_THETA, whole: true })
+        };
+        Ok(TupleUnion { store, settings, begun: false, policy: self.policy })
+    }
+}
