@@ -26,8 +26,8 @@ fn folder_of_package() -> Option<PathBuf> {
 fn refuse(reason: &str) -> ! {
     eprintln!("kaftanclay: {reason}");
     eprintln!(
-        "kaftanclay: name the folder of libkaftanclay.a in KAFTANCLAY_LIB_DIR, or install the package libkaftanclay-dev, \
-         or run `make proved all` in bindings/c of the sources"
+        "kaftanclay: name the folder of libkaftanclay.a in KAFTANCLAY_LIB_DIR, or install the package \
+         libkaftanclay-dev, or run `make proved all` in bindings/c of the sources"
     );
     exit(1)
 }

@@ -266,7 +266,8 @@ operators! {
         kc_sums_union_add, kc_sums_union_add_compact, kc_sums_union_add_image, kc_sums_union_result
     }
     SumsIntersectionKind (SumsKind, CompactSumsKind) {
-        kc_sums_intersection_add, kc_sums_intersection_add_compact, kc_sums_intersection_add_image, kc_sums_intersection_result
+        kc_sums_intersection_add, kc_sums_intersection_add_compact, kc_sums_intersection_add_image,
+        kc_sums_intersection_result
     }
 }
 impl Unites for UnionKind {
@@ -329,7 +330,7 @@ fn bytes_of(mut room: usize, mut call: impl FnMut(*mut u8, usize, *mut u64) -> S
             TOO_SMALL if length > room as u64 => room = length as usize,
             status => {
                 check(status)?;
-                // SAFETY: the call has written the first `length` bytes, which are at most `room`, the vector's capacity.
+                // SAFETY: the call has written the first `length` bytes, at most the vector's capacity `room`.
                 unsafe { bytes.set_len(length as usize) };
                 return Ok(bytes);
             }
@@ -445,13 +446,13 @@ impl Compact {
 impl<K: Operator> Object<K> {
     pub(crate) fn add(&mut self, sketch: &Object<K::Leaf>) -> Result<(), Error> {
         let at = self.handle();
-        // SAFETY: the handles are of the call's kinds; `&mut` excludes other calls on the first, its lock on the second.
+        // SAFETY: the handles are of the call's kinds; `&mut` and the second's lock exclude other calls.
         check(sketch.read(|sketch| unsafe { K::ADD(at, sketch) }))
     }
 
     pub(crate) fn add_form(&mut self, sketch: &Object<K::Form>) -> Result<(), Error> {
         let at = self.handle();
-        // SAFETY: the handles are of the call's kinds; `&mut` excludes other calls on the first, its lock on the second.
+        // SAFETY: the handles are of the call's kinds; `&mut` and the second's lock exclude other calls.
         check(sketch.read(|sketch| unsafe { K::ADD_FORM(at, sketch) }))
     }
 

@@ -516,7 +516,8 @@ fn images_have_summaries_behind_their_hashes() {
 fn every_number_is_a_summary_of_images() {
     macro_rules! round {
         ($($number:ty)*) => {$(
-            let mut sketch = TupleSketchBuilder::new(DefaultUpdatePolicy::<$number>::default()).lg_k(4).build().unwrap();
+            let policy = DefaultUpdatePolicy::<$number>::default();
+            let mut sketch = TupleSketchBuilder::new(policy).lg_k(4).build().unwrap();
             (0..300_u64).for_each(|it| sketch.update(it, it as $number));
             let compact = sketch.compact(true);
             let read = CompactTupleSketch::<$number>::deserialize(&compact.serialize()).unwrap();

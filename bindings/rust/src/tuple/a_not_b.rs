@@ -8,8 +8,8 @@ use crate::hash::{seed_hash, DEFAULT_UPDATE_SEED};
 use crate::images::hashes_of;
 use std::ops::Deref;
 
-/// Differences of tuple sketches: the entries of a whose keys b lacks, below the lesser theta. Their summaries are those
-/// of a; those of b may be of another type.
+/// Differences of tuple sketches: the entries of a whose keys b lacks, below the lesser theta. Their summaries are
+/// those of a; those of b may be of another type.
 ///
 /// ```
 /// use kaftanclay::tuple::{DefaultUpdatePolicy, TupleANotB, TupleSketchBuilder};

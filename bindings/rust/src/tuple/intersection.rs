@@ -16,7 +16,8 @@ use std::mem::size_of;
 /// value.
 ///
 /// ```
-/// use kaftanclay::tuple::{DefaultUpdatePolicy, SummaryCombinePolicy, SummaryPolicy, TupleIntersection, TupleSketchBuilder};
+/// use kaftanclay::tuple::{DefaultUpdatePolicy, SummaryCombinePolicy, SummaryPolicy};
+/// use kaftanclay::tuple::{TupleIntersection, TupleSketchBuilder};
 ///
 /// struct Least;
 /// impl SummaryPolicy for Least {
