@@ -15,6 +15,7 @@ PACKAGES = {
         "gcc", "libc6-dev", "make", "python3-dev", "python3-setuptools", "python3-wheel", "python3-venv", "python3-pytest", "python3-numpy",
         "python3-pandas", "python3-dask", "mypy",
     ],
+    "rust": ["gcc", "libc6-dev", "make"],
     "sqlite": ["sqlite3", "libsqlite3-dev"],
     "postgresql": ["postgresql-15", "postgresql-server-dev-15"],
     "packages": [

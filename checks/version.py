@@ -16,6 +16,7 @@ PLACES = [
     ("tests/distinct/help.cases", r"\n== version_in_short\n.*\n> distinct (\S+)\n"),
     ("bindings/python/kaftanclay/__init__.py", r'(?m)^__version__ = "([^"]+)"'),
     ("bindings/python/pyproject.toml", r'(?m)^version = "([^"]+)"'),
+    ("bindings/rust/Cargo.toml", r'(?m)^version = "([^"]+)"'),
     ("bindings/postgresql/theta_sketch.control", r"(?m)^default_version = '([^']+)'"),
     ("include/kaftanclay.h", r'(?m)^#define KC_VERSION "([^"]+)"'),
     ("CHANGELOG.md", r"(?m)^## ([0-9.]+[0-9])"),

@@ -4,7 +4,7 @@
 //!
 //! ```toml
 //! [dependencies]
-//! datasketches = { package = "kaftanclay", version = "0.2.0", features = ["theta", "tuple"] }
+//! datasketches = { package = "kaftanclay", path = "../kaftanclay/bindings/rust", features = ["theta", "tuple"] }
 //! ```
 //!
 //! Which hashes a sketch retains, its theta, the results of unions, intersections and differences, sums, and images are
