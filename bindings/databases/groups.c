@@ -11,30 +11,7 @@ uint8_t lg_k_for(uint64_t retained) {
     return lg_k;
 }
 
-static kc_status begin_rows(union_group *group) {
-    return group->rows.object != NULL ? KC_OK : kc_theta_new(&group->rows, group->lg_k, KC_DEFAULT_SEED);
-}
-
-static kc_status begin_parts(union_group *group) {
-    return group->parts.object != NULL ? KC_OK : kc_union_new(&group->parts, group->lg_k, KC_DEFAULT_SEED);
-}
-
-kc_status union_add_bytes(union_group *group, const void *bytes, size_t count) {
-    kc_status status = begin_rows(group);
-    return status != KC_OK ? status : kc_theta_update_bytes(&group->rows, bytes, count);
-}
-
-kc_status union_add_number(union_group *group, uint64_t number) {
-    kc_status status = begin_rows(group);
-    return status != KC_OK ? status : kc_theta_update_u64(&group->rows, number);
-}
-
-kc_status union_add_sketch(union_group *group, kc_compact *sketch) {
-    kc_status status = begin_parts(group);
-    return status != KC_OK ? status : kc_union_add_compact(&group->parts, sketch);
-}
-
-/* The empty sketch. */
+/* The empty sketch of each kind. */
 static kc_status empty_result(kc_compact *out) {
     kc_theta none = {0};
     kc_status status = kc_theta_new(&none, LEAST_LG_K, KC_DEFAULT_SEED);
@@ -43,43 +20,6 @@ static kc_status empty_result(kc_compact *out) {
     return status;
 }
 
-kc_status union_result(union_group *group, kc_compact *out) {
-    kc_status status = KC_OK;
-    if (group->rows.object != NULL) status = kc_theta_trim(&group->rows);
-    if (status != KC_OK) return status;
-    if (group->parts.object == NULL) return group->rows.object != NULL ? kc_theta_compact(&group->rows, out) : empty_result(out);
-    if (group->rows.object != NULL) status = kc_union_add(&group->parts, &group->rows);
-    return status != KC_OK ? status : kc_union_result(&group->parts, out);
-}
-
-void union_free(union_group *group) {
-    kc_theta_free(&group->rows);
-    kc_union_free(&group->parts);
-}
-
-/* ---- Sums ---- */
-
-static kc_status begin_sums(sums_group *group) {
-    return group->rows.object != NULL ? KC_OK : kc_sums_new(&group->rows, group->lg_k, KC_DEFAULT_SEED);
-}
-
-kc_status sums_add_bytes(sums_group *group, const void *bytes, size_t count, uint64_t value) {
-    kc_status status = begin_sums(group);
-    return status != KC_OK ? status : kc_sums_add_bytes(&group->rows, bytes, count, value);
-}
-
-kc_status sums_add_number(sums_group *group, uint64_t number, uint64_t value) {
-    kc_status status = begin_sums(group);
-    return status != KC_OK ? status : kc_sums_add_u64(&group->rows, number, value);
-}
-
-kc_status sums_add_sketch(sums_group *group, kc_compact_sums *sketch) {
-    kc_status status = KC_OK;
-    if (group->parts.object == NULL) status = kc_sums_union_new(&group->parts, group->lg_k, KC_DEFAULT_SEED);
-    return status != KC_OK ? status : kc_sums_union_add_compact(&group->parts, sketch);
-}
-
-/* The empty sketch. */
 static kc_status empty_sums(kc_compact_sums *out) {
     kc_sums none = {0};
     kc_status status = kc_sums_new(&none, LEAST_LG_K, KC_DEFAULT_SEED);
@@ -88,16 +28,38 @@ static kc_status empty_sums(kc_compact_sums *out) {
     return status;
 }
 
-kc_status sums_result(sums_group *group, kc_compact_sums *out) {
-    if (group->parts.object != NULL) return kc_sums_union_result(&group->parts, out);
-    if (group->rows.object == NULL) return empty_sums(out);
-    kc_status status = kc_sums_trim(&group->rows);
-    return status != KC_OK ? status : kc_sums_compact(&group->rows, out);
+#define UNION(name) union_##name
+#define ROWS(name) kc_theta##name
+#define SKETCH(name) kc_compact##name
+#define OPERATOR(name) kc_union##name
+#define EMPTY empty_result
+#include "union.inc"
+
+kc_status union_add_bytes(union_group *group, const void *bytes, size_t count) {
+    kc_status status = union_begin(group);
+    return status != KC_OK ? status : kc_theta_update_bytes(&group->rows, bytes, count);
 }
 
-void sums_free(sums_group *group) {
-    kc_sums_free(&group->rows);
-    kc_sums_union_free(&group->parts);
+kc_status union_add_number(union_group *group, uint64_t number) {
+    kc_status status = union_begin(group);
+    return status != KC_OK ? status : kc_theta_update_u64(&group->rows, number);
+}
+
+#define UNION(name) sums_##name
+#define ROWS(name) kc_sums##name
+#define SKETCH(name) kc_compact_sums##name
+#define OPERATOR(name) kc_sums_union##name
+#define EMPTY empty_sums
+#include "union.inc"
+
+kc_status sums_add_bytes(sums_group *group, const void *bytes, size_t count, uint64_t value) {
+    kc_status status = sums_begin(group);
+    return status != KC_OK ? status : kc_sums_add_bytes(&group->rows, bytes, count, value);
+}
+
+kc_status sums_add_number(sums_group *group, uint64_t number, uint64_t value) {
+    kc_status status = sums_begin(group);
+    return status != KC_OK ? status : kc_sums_add_u64(&group->rows, number, value);
 }
 
 /* ---- Intersections ---- */
@@ -107,8 +69,6 @@ void sums_free(sums_group *group) {
 #define INTERSECTION(name) kc_intersection##name
 #define EMPTY empty_result
 #include "meet.inc"
-
-kc_status meet_piece(kc_intersection *piece, kc_compact *out) { return kc_intersection_result(piece, out); }
 
 #define MEET(name) sums_meet_##name
 #define SKETCH(name) kc_compact_sums##name

@@ -13,12 +13,19 @@ enum { DEFAULT_LG_K = 12, LEAST_LG_K = 4, GREATEST_LG_K = 26 };
 /* The least lg_k, from DEFAULT_LG_K on, of a union that keeps so many hashes; at most GREATEST_LG_K. An image doesn't record its lg_k. */
 uint8_t lg_k_for(uint64_t retained);
 
+/* The lg_k of a union that keeps as many hashes as its largest sketch retains: 2^lg_k_for(these). Which one is the largest is known at
+ * the end, so nothing may be cut before: sketches that retain at most 2^SMALL_LG_K hashes are united with so many nominal entries, and
+ * the others, by themselves, with 2^GREATEST_LG_K. The result is the union of both, cut. If there are others, the small ones may have
+ * been cut to 2^SMALL_LG_K before. */
+enum { BY_LARGEST = 255, SMALL_LG_K = 16, PIECES = 2 };
+
 /* The union of keys and sketches. Keys are inserted into `rows`, sketches are merged into `parts`; each is made at its first use. Begin
- * with {0}, and set lg_k before the first call. */
+ * with {0}, and set lg_k before the first call, to a number from LEAST_LG_K to GREATEST_LG_K or, for sketches alone, BY_LARGEST. */
 typedef struct {
     kc_theta rows;
-    kc_union parts;
+    kc_union parts[PIECES]; /* with BY_LARGEST the first is of small sketches, the second of others; else all are in the first */
     uint8_t lg_k;
+    uint8_t largest; /* with BY_LARGEST the lg_k that the largest sketch needs; 0 before the first sketch */
 } union_group;
 
 /* Insert a key. Refused with KC_OUT_OF_MEMORY, and with KC_INVALID_ARGUMENT if lg_k is out of range. */
@@ -26,15 +33,20 @@ kc_status union_add_bytes(union_group *group, const void *bytes, size_t count);
 kc_status union_add_number(union_group *group, uint64_t number);
 /* Merges a sketch, refused as the calls above are. */
 kc_status union_add_sketch(union_group *group, kc_compact *sketch);
-/* Makes the union as an ordered compact sketch, trimmed to 2^lg_k entries; without keys and sketches the empty one. The group may go on
- * afterwards. Refused with KC_OUT_OF_MEMORY. */
+/* Makes the union as an ordered compact sketch, trimmed to its nominal entries; without keys and sketches the empty one. The group may go
+ * on afterwards. Refused with KC_OUT_OF_MEMORY. */
 kc_status union_result(union_group *group, kc_compact *out);
+/* The pieces of a union, from 0 to PIECES - 1, from which another of the same lg_k goes on: whether it has one, that piece as a sketch,
+ * and the merge of one. `largest` is not in them. */
+int union_has_piece(const union_group *group, int place);
+kc_status union_piece(union_group *group, int place, kc_compact *out);
+kc_status union_add_piece(union_group *group, int place, kc_compact *sketch);
 void union_free(union_group *group);
 
 /* The intersection of sketches. Begin with {0}. */
+enum { EXACT, SAMPLED };
 typedef struct {
-    kc_intersection exact;   /* of the sketches whose theta is KC_MAX_THETA, the empty ones among them */
-    kc_intersection sampled; /* of the others */
+    kc_intersection parts[PIECES]; /* of the sketches whose theta is KC_MAX_THETA, the empty ones among them, and of the others */
 } meet_group;
 
 /* Intersects with a sketch, refused with KC_OUT_OF_MEMORY. An intersection in one piece would be the empty sketch only if exact sketches
@@ -45,35 +57,40 @@ int meet_has_result(const meet_group *group);
 /* Makes the intersection as an ordered compact sketch: the empty one if the exact sketches have no common hash. Refused with
  * KC_OUT_OF_MEMORY, and with KC_INVALID_ARGUMENT without a sketch. */
 kc_status meet_result(meet_group *group, kc_compact *out);
-/* Makes the intersection of the exact sketches, or of the sampled ones. Refused as meet_result is. */
-kc_status meet_piece(kc_intersection *piece, kc_compact *out);
+/* The pieces of an intersection: whether it has one, and that piece as a sketch, which another merges by meet_add. */
+int meet_has_piece(const meet_group *group, int place);
+kc_status meet_piece(meet_group *group, int place, kc_compact *out);
 void meet_free(meet_group *group);
 
-/* A tuple sketch of sums, either of keys with values, in `rows`, or the union of sketches, in `parts`. Begin as with union_group. */
+/* The union of keys with values, and of tuple sketches of sums, which adds up the sums of a key. Its calls are those of union_group; they
+ * are also refused with KC_POLICY if the sum of a key would be 2^64 or more, and then the group has failed. */
 typedef struct {
     kc_sums rows;
-    kc_sums_union parts;
+    kc_sums_union parts[PIECES];
     uint8_t lg_k;
+    uint8_t largest;
 } sums_group;
 
-/* Add a value at a key. Refused with KC_POLICY if the sum of the key would be 2^64 or more, and as the calls of union_group are. */
+/* Add a value at a key. */
 kc_status sums_add_bytes(sums_group *group, const void *bytes, size_t count, uint64_t value);
 kc_status sums_add_number(sums_group *group, uint64_t number, uint64_t value);
-/* Merges a sketch, refused as the calls above are. */
 kc_status sums_add_sketch(sums_group *group, kc_compact_sums *sketch);
-/* Makes the result as union_result does. */
 kc_status sums_result(sums_group *group, kc_compact_sums *out);
+int sums_has_piece(const sums_group *group, int place);
+kc_status sums_piece(sums_group *group, int place, kc_compact_sums *out);
+kc_status sums_add_piece(sums_group *group, int place, kc_compact_sums *sketch);
 void sums_free(sums_group *group);
 
 /* The intersection of tuple sketches of sums, which adds up the sums of a key, and its calls, as those of meet_group. sums_meet_add and
  * sums_meet_result are also refused with KC_POLICY if the sum of a key would be 2^64 or more; nothing has changed then. */
 typedef struct {
-    kc_sums_intersection exact;
-    kc_sums_intersection sampled;
+    kc_sums_intersection parts[PIECES];
 } sums_meet_group;
 kc_status sums_meet_add(sums_meet_group *group, kc_compact_sums *sketch);
 int sums_meet_has_result(const sums_meet_group *group);
 kc_status sums_meet_result(sums_meet_group *group, kc_compact_sums *out);
+int sums_meet_has_piece(const sums_meet_group *group, int place);
+kc_status sums_meet_piece(sums_meet_group *group, int place, kc_compact_sums *out);
 void sums_meet_free(sums_meet_group *group);
 
 /* Reads the one sketch that the bytes are the image of. If they are none, returns KC_INVALID_DATA and sets *flaw to the reason, which

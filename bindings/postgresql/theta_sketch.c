@@ -64,14 +64,14 @@ static uint64_t retained_of(kc_compact *sketch) {
     return state.retained;
 }
 
-/* The image of a sketch, with `room` bytes left free before it. The sketch is freed. */
-static bytea *image_behind(size_t room, kc_compact *sketch) {
+/* The image of a sketch, which is freed. */
+static bytea *image_of(kc_compact *sketch) {
     uint64_t length = 0;
     kc_status status = kc_compact_image(sketch, NULL, 0, &length);
     if (status != KC_TOO_SMALL) want(status);
-    bytea *image = palloc(VARHDRSZ + room + length);
-    SET_VARSIZE(image, VARHDRSZ + room + length);
-    want(kc_compact_image(sketch, VARDATA(image) + room, length, &length));
+    bytea *image = palloc(VARHDRSZ + length);
+    SET_VARSIZE(image, VARHDRSZ + length);
+    want(kc_compact_image(sketch, VARDATA(image), length, &length));
     kc_compact_free(sketch);
     return image;
 }
@@ -88,7 +88,7 @@ static bytea *value_of(kc_compact *sketch) {
                        (unsigned long long)retained_of(sketch), 1 << GREATEST_LG_K_OF_VALUE),
                 errhint("Pass an lg_k of at most %d; make an image smaller by \"distinct union --lg-k %d\".", GREATEST_LG_K_OF_VALUE,
                         GREATEST_LG_K_OF_VALUE));
-    return image_behind(0, sketch);
+    return image_of(sketch);
 }
 
 /* The value of the sketch that bytes from outside are the image of. */
@@ -182,7 +182,7 @@ Datum theta_sketch_to_string(PG_FUNCTION_ARGS) {
  * sketches retain. */
 PG_FUNCTION_INFO_V1(theta_sketch_union);
 Datum theta_sketch_union(PG_FUNCTION_ARGS) {
-    union_group group = {{0}, {0}, DEFAULT_LG_K};
+    union_group group = {.lg_k = DEFAULT_LG_K};
     kc_compact sketches[2] = {{0}}, out = {0};
     uint64_t retained = 0;
     if (PG_ARGISNULL(0) && PG_ARGISNULL(1)) PG_RETURN_NULL();
@@ -201,7 +201,7 @@ Datum theta_sketch_union(PG_FUNCTION_ARGS) {
 
 PG_FUNCTION_INFO_V1(theta_sketch_intersection);
 Datum theta_sketch_intersection(PG_FUNCTION_ARGS) {
-    meet_group group = {{0}, {0}};
+    meet_group group = {0};
     kc_compact sketches[3] = {{0}};
     theta_sketch_heap = CurrentMemoryContext;
     for (int i = 0; i < 2; i++) {
@@ -276,16 +276,16 @@ static Datum unchanged(FunctionCallInfo fcinfo) {
 
 /* Sets lg_k of a group, which has to be the same in all of its rows and parts. */
 static void set_lg_k(union_group *group, int32 lg_k) {
-    if (group->lg_k == 0) group->lg_k = (uint8_t)checked_lg_k(lg_k);
+    if (group->lg_k == 0) group->lg_k = (uint8_t)lg_k;
     else if (group->lg_k != lg_k)
         ereport(ERROR, errcode(ERRCODE_INVALID_PARAMETER_VALUE), errmsg("theta_sketch: lg_k is %d and %d in one group", group->lg_k, lg_k),
                 errhint("Pass a constant."));
 }
 
-/* The state that a row is added to, with the lg_k of that row. */
-static UnionState *state_for_row(FunctionCallInfo fcinfo) {
+/* The state that a row is added to, with the lg_k of that row, or this one without an argument. */
+static UnionState *state_for_row(FunctionCallInfo fcinfo, uint8_t lg_k) {
     UnionState *state = union_state(fcinfo);
-    set_lg_k(&state->group, PG_NARGS() > 2 ? lg_k_argument(fcinfo) : DEFAULT_LG_K);
+    set_lg_k(&state->group, PG_NARGS() > 2 ? lg_k_argument(fcinfo) : lg_k);
     return state;
 }
 
@@ -343,7 +343,7 @@ PG_FUNCTION_INFO_V1(theta_sketch_add_bytes);
 Datum theta_sketch_add_bytes(PG_FUNCTION_ARGS) {
     check_keys(fcinfo);
     if (PG_ARGISNULL(1)) return unchanged(fcinfo);
-    UnionState *state = state_for_row(fcinfo);
+    UnionState *state = state_for_row(fcinfo, DEFAULT_LG_K);
     bytea *key = PG_GETARG_BYTEA_PP(1);
     want(union_add_bytes(&state->group, VARDATA_ANY(key), VARSIZE_ANY_EXHDR(key)));
     PG_RETURN_POINTER(state);
@@ -352,28 +352,17 @@ Datum theta_sketch_add_bytes(PG_FUNCTION_ARGS) {
 PG_FUNCTION_INFO_V1(theta_sketch_add_int8);
 Datum theta_sketch_add_int8(PG_FUNCTION_ARGS) {
     if (PG_ARGISNULL(1)) return unchanged(fcinfo);
-    UnionState *state = state_for_row(fcinfo);
+    UnionState *state = state_for_row(fcinfo, DEFAULT_LG_K);
     want(union_add_number(&state->group, (uint64_t)PG_GETARG_INT64(1)));
     PG_RETURN_POINTER(state);
-}
-
-/* Warns, once for a call in a query, of a sketch that retains more than a union without lg_k keeps, which drops some of its hashes. */
-static void warn_of(FunctionCallInfo fcinfo, kc_compact *sketch) {
-    if (PG_NARGS() > 2 || fcinfo->flinfo->fn_extra != NULL || lg_k_for(retained_of(sketch)) == DEFAULT_LG_K) return;
-    fcinfo->flinfo->fn_extra = fcinfo->flinfo;
-    ereport(WARNING, errcode(ERRCODE_WARNING),
-            errmsg("theta_sketch: a sketch retains %llu hashes, and a union without lg_k keeps %d",
-                   (unsigned long long)retained_of(sketch), 1 << DEFAULT_LG_K),
-            errhint("Pass lg_k, such as theta_sketch_union(sketch, %d).", lg_k_for(retained_of(sketch))));
 }
 
 PG_FUNCTION_INFO_V1(theta_sketch_add_sketch);
 Datum theta_sketch_add_sketch(PG_FUNCTION_ARGS) {
     kc_compact sketch = {0};
     if (PG_ARGISNULL(1)) return unchanged(fcinfo);
-    UnionState *state = state_for_row(fcinfo);
+    UnionState *state = state_for_row(fcinfo, BY_LARGEST);
     read_value(PG_GETARG_BYTEA_PP(1), &sketch);
-    warn_of(fcinfo, &sketch);
     want(union_add_sketch(&state->group, &sketch));
     kc_compact_free(&sketch);
     PG_RETURN_POINTER(state);
@@ -382,44 +371,84 @@ Datum theta_sketch_add_sketch(PG_FUNCTION_ARGS) {
 /* Merges the second state, of another worker, into the first. */
 PG_FUNCTION_INFO_V1(theta_sketch_combine);
 Datum theta_sketch_combine(PG_FUNCTION_ARGS) {
-    kc_compact sketch = {0};
     if (PG_ARGISNULL(1)) return unchanged(fcinfo);
     UnionState *other = (UnionState *)PG_GETARG_POINTER(1);
     UnionState *state = union_state(fcinfo);
     set_lg_k(&state->group, other->group.lg_k);
-    theta_sketch_heap = other->context;
-    want(union_result(&other->group, &sketch));
-    theta_sketch_heap = state->context;
-    want(union_add_sketch(&state->group, &sketch));
-    kc_compact_free(&sketch);
+    state->group.largest = Max(state->group.largest, other->group.largest);
+    for (int place = 0; place < PIECES; place++) {
+        kc_compact sketch = {0};
+        if (!union_has_piece(&other->group, place)) continue;
+        theta_sketch_heap = other->context;
+        want(union_piece(&other->group, place, &sketch));
+        theta_sketch_heap = state->context;
+        want(union_add_piece(&state->group, place, &sketch));
+        kc_compact_free(&sketch);
+    }
     PG_RETURN_POINTER(state);
 }
 
-/* A state as bytes: lg_k, and the image of its result. */
+/* A state as bytes: this head, and the images of both pieces, each of which may be missing. */
+typedef struct {
+    uint64 lengths[PIECES], lg_k, largest; /* the last two are those of a union */
+} StateHead;
+
+static bytea *state_bytes(StateHead head, bytea *pieces[PIECES]) {
+    Size size = VARHDRSZ + sizeof head;
+    for (int place = 0; place < PIECES; place++) size += head.lengths[place] = pieces[place] != NULL ? VARSIZE(pieces[place]) - VARHDRSZ : 0;
+    bytea *bytes = palloc(size);
+    char *at = VARDATA(bytes);
+    SET_VARSIZE(bytes, size);
+    memcpy(at, &head, sizeof head);
+    at += sizeof head;
+    for (int place = 0; place < PIECES; at += head.lengths[place++])
+        if (pieces[place] != NULL) memcpy(at, VARDATA(pieces[place]), head.lengths[place]);
+    return bytes;
+}
+
+/* The head of such bytes; sets *images to those behind it. */
+static StateHead state_head(bytea *bytes, const char **images) {
+    StateHead head;
+    Size count = VARSIZE_ANY_EXHDR(bytes);
+    if (count < sizeof head) elog(ERROR, "theta_sketch: a state has too few bytes");
+    memcpy(&head, VARDATA_ANY(bytes), sizeof head);
+    if (count - sizeof head < head.lengths[0] || count - sizeof head - head.lengths[0] != head.lengths[1])
+        elog(ERROR, "theta_sketch: a state has too few bytes");
+    *images = VARDATA_ANY(bytes) + sizeof head;
+    return head;
+}
+
 PG_FUNCTION_INFO_V1(theta_sketch_serialize);
 Datum theta_sketch_serialize(PG_FUNCTION_ARGS) {
-    kc_compact sketch = {0};
     UnionState *state = union_state(fcinfo);
-    want(union_result(&state->group, &sketch));
-    bytea *bytes = image_behind(1, &sketch);
-    *VARDATA(bytes) = (char)state->group.lg_k;
-    PG_RETURN_BYTEA_P(bytes);
+    StateHead head = {{0}, state->group.lg_k, state->group.largest};
+    bytea *pieces[PIECES] = {NULL};
+    for (int place = 0; place < PIECES; place++) {
+        kc_compact sketch = {0};
+        if (!union_has_piece(&state->group, place)) continue;
+        want(union_piece(&state->group, place, &sketch));
+        pieces[place] = image_of(&sketch);
+    }
+    PG_RETURN_BYTEA_P(state_bytes(head, pieces));
 }
 
 /* A state of such bytes. The combination with another reads it at once, so it is in the context of the row. */
 PG_FUNCTION_INFO_V1(theta_sketch_deserialize);
 Datum theta_sketch_deserialize(PG_FUNCTION_ARGS) {
-    kc_compact sketch = {0};
-    bytea *bytes = PG_GETARG_BYTEA_PP(0);
-    const char *at = VARDATA_ANY(bytes);
+    const char *at;
+    StateHead head = state_head(PG_GETARG_BYTEA_PP(0), &at);
     UnionState *state = palloc0(sizeof *state);
     (void)aggregate_context(fcinfo);
     state->context = theta_sketch_heap = CurrentMemoryContext;
-    if (VARSIZE_ANY_EXHDR(bytes) < 1) elog(ERROR, "theta_sketch: a state has no bytes");
-    set_lg_k(&state->group, (unsigned char)*at);
-    read_bytes(at + 1, VARSIZE_ANY_EXHDR(bytes) - 1, &sketch);
-    want(union_add_sketch(&state->group, &sketch));
-    kc_compact_free(&sketch);
+    state->group.lg_k = (uint8_t)head.lg_k;
+    state->group.largest = (uint8_t)head.largest;
+    for (int place = 0; place < PIECES; at += head.lengths[place++]) {
+        kc_compact sketch = {0};
+        if (head.lengths[place] == 0) continue;
+        read_bytes(at, head.lengths[place], &sketch);
+        want(union_add_piece(&state->group, place, &sketch));
+        kc_compact_free(&sketch);
+    }
     PG_RETURN_POINTER(state);
 }
 
@@ -466,60 +495,41 @@ Datum theta_sketch_meet_combine(PG_FUNCTION_ARGS) {
     if (PG_ARGISNULL(1)) return unchanged(fcinfo);
     MeetState *other = (MeetState *)PG_GETARG_POINTER(1);
     MeetState *state = meet_state(fcinfo);
-    kc_intersection *pieces[] = {&other->group.exact, &other->group.sampled};
-    for (int i = 0; i < 2; i++) {
+    for (int place = 0; place < PIECES; place++) {
         kc_compact sketch = {0};
-        if (pieces[i]->object == NULL) continue;
-        want(meet_piece(pieces[i], &sketch));
+        if (!meet_has_piece(&other->group, place)) continue;
+        want(meet_piece(&other->group, place, &sketch));
         want(meet_add(&state->group, &sketch));
         kc_compact_free(&sketch);
     }
     PG_RETURN_POINTER(state);
 }
 
-/* A state as bytes: the length of the image of its exact piece in eight bytes, that image, and that of its sampled piece; each may be
- * missing. */
 PG_FUNCTION_INFO_V1(theta_sketch_meet_serialize);
 Datum theta_sketch_meet_serialize(PG_FUNCTION_ARGS) {
-    kc_compact sketch = {0};
     MeetState *state = meet_state(fcinfo);
-    bytea *exact = NULL, *sampled = NULL;
-    if (state->group.exact.object != NULL) {
-        want(meet_piece(&state->group.exact, &sketch));
-        exact = image_behind(0, &sketch);
+    StateHead head = {{0}, 0, 0};
+    bytea *pieces[PIECES] = {NULL};
+    for (int place = 0; place < PIECES; place++) {
+        kc_compact sketch = {0};
+        if (!meet_has_piece(&state->group, place)) continue;
+        want(meet_piece(&state->group, place, &sketch));
+        pieces[place] = image_of(&sketch);
     }
-    if (state->group.sampled.object != NULL) {
-        want(meet_piece(&state->group.sampled, &sketch));
-        sampled = image_behind(0, &sketch);
-    }
-    uint64 length = exact != NULL ? VARSIZE(exact) - VARHDRSZ : 0;
-    uint64 rest = sampled != NULL ? VARSIZE(sampled) - VARHDRSZ : 0;
-    bytea *bytes = palloc(VARHDRSZ + sizeof length + length + rest);
-    SET_VARSIZE(bytes, VARHDRSZ + sizeof length + length + rest);
-    memcpy(VARDATA(bytes), &length, sizeof length);
-    if (exact != NULL) memcpy(VARDATA(bytes) + sizeof length, VARDATA(exact), length);
-    if (sampled != NULL) memcpy(VARDATA(bytes) + sizeof length + length, VARDATA(sampled), rest);
-    PG_RETURN_BYTEA_P(bytes);
+    PG_RETURN_BYTEA_P(state_bytes(head, pieces));
 }
 
 PG_FUNCTION_INFO_V1(theta_sketch_meet_deserialize);
 Datum theta_sketch_meet_deserialize(PG_FUNCTION_ARGS) {
-    kc_compact sketch = {0};
-    bytea *bytes = PG_GETARG_BYTEA_PP(0);
-    const char *at = VARDATA_ANY(bytes);
-    size_t count = VARSIZE_ANY_EXHDR(bytes);
-    uint64 length = 0;
+    const char *at;
+    StateHead head = state_head(PG_GETARG_BYTEA_PP(0), &at);
     MeetState *state = palloc0(sizeof *state);
     (void)aggregate_context(fcinfo);
     state->context = theta_sketch_heap = CurrentMemoryContext;
-    if (count < sizeof length) elog(ERROR, "theta_sketch: a state has too few bytes");
-    memcpy(&length, at, sizeof length);
-    at += sizeof length, count -= sizeof length;
-    if (count < length) elog(ERROR, "theta_sketch: a state has too few bytes");
-    const size_t lengths[] = {length, count - length};
-    for (int i = 0; i < 2; at += lengths[i++]) {
-        if (lengths[i] == 0) continue;
-        read_bytes(at, lengths[i], &sketch);
+    for (int place = 0; place < PIECES; at += head.lengths[place++]) {
+        kc_compact sketch = {0};
+        if (head.lengths[place] == 0) continue;
+        read_bytes(at, head.lengths[place], &sketch);
         want(meet_add(&state->group, &sketch));
         kc_compact_free(&sketch);
     }

@@ -65,9 +65,9 @@ static sqlite3_int64 integer_of(int count, value **arguments, int place, sqlite3
     return sqlite3_value_type(arguments[place]) == SQLITE_INTEGER ? sqlite3_value_int64(arguments[place]) : 0;
 }
 
-int take_lg_k(context *call, int count, value **arguments, int place, uint8_t *lg_k) {
-    sqlite3_int64 n = integer_of(count, arguments, place, DEFAULT_LG_K);
-    int is_in_range = LEAST_LG_K <= n && n <= GREATEST_LG_K;
+int take_lg_k(context *call, int count, value **arguments, int place, uint8_t missing, uint8_t *lg_k) {
+    sqlite3_int64 n = integer_of(count, arguments, place, missing);
+    int is_in_range = count <= place || (LEAST_LG_K <= n && n <= GREATEST_LG_K);
     if (!is_in_range) refuse(call, "lg_k is not a whole number from 4 to 26");
     else if (*lg_k == 0) *lg_k = (uint8_t)n;
     else if (*lg_k != n) refuse(call, "lg_k differs between the rows of a group; pass a constant");

@@ -24,8 +24,9 @@ int is_null(value *v);
 int bytes_of(context *call, value *v, const void **bytes, size_t *count);
 /* The bytes of a sketch, likewise; it has to be a blob. */
 int image_bytes(context *call, value *v, const void **bytes, size_t *count);
-/* Reads lg_k from an argument that may be missing. It has to be the same in all rows of a group. Returns whether the call goes on. */
-int take_lg_k(context *call, int count, value **arguments, int place, uint8_t *lg_k);
+/* Reads lg_k from an argument; if that is missing, it is `missing`. It has to be the same in all rows of a group. Returns whether the call
+ * goes on. */
+int take_lg_k(context *call, int count, value **arguments, int place, uint8_t missing, uint8_t *lg_k);
 /* Reads a number of standard deviations, likewise. */
 int take_deviations(context *call, int count, value **arguments, uint32_t *deviations);
 

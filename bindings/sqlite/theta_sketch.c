@@ -20,7 +20,7 @@ static void build_step(context *call, int count, value **arguments) {
     union_group *group = state_of(call, sizeof *group);
     const void *bytes;
     size_t length;
-    if (group == NULL || is_null(arguments[0]) || !take_lg_k(call, count, arguments, 1, &group->lg_k)) return;
+    if (group == NULL || is_null(arguments[0]) || !take_lg_k(call, count, arguments, 1, DEFAULT_LG_K, &group->lg_k)) return;
     switch (sqlite3_value_type(arguments[0])) {
     case SQLITE_INTEGER: passed(call, union_add_number(group, (uint64_t)sqlite3_value_int64(arguments[0]))); break;
     case SQLITE_FLOAT: refuse_key(call); break;

@@ -15,7 +15,7 @@ void sums_build_step(context *call, int count, value **arguments) {
     sums_group *group = state_of(call, sizeof *group);
     const void *bytes;
     size_t length;
-    if (group == NULL || is_null(arguments[0]) || is_null(arguments[1]) || !take_lg_k(call, count, arguments, 2, &group->lg_k)) return;
+    if (group == NULL || is_null(arguments[0]) || is_null(arguments[1]) || !take_lg_k(call, count, arguments, 2, DEFAULT_LG_K, &group->lg_k)) return;
     sqlite3_int64 n = sqlite3_value_int64(arguments[1]);
     int is_value = sqlite3_value_type(arguments[1]) == SQLITE_INTEGER && n >= 0;
     if (!is_value) refuse(call, "a value is an integer from 0 to 9223372036854775807");
