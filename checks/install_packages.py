@@ -10,7 +10,7 @@ import subprocess
 import sys
 
 PACKAGES = {
-    "c": ["gcc", "libc6-dev", "make", "pkg-config", "valgrind"],
+    "c": ["gcc", "g++", "clang", "libc6-dev", "make", "pkg-config", "valgrind"],
     "python": [
         "gcc", "libc6-dev", "make", "python3-dev", "python3-setuptools", "python3-wheel", "python3-venv", "python3-pytest", "python3-numpy",
         "python3-pandas", "python3-dask", "mypy",
