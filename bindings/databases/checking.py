@@ -56,7 +56,20 @@ def build(folder, *words):
     library = os.environ.get("KAFTANCLAY_LIB") or os.path.join(TOP, "crates", "c_library", "out")
     if not os.path.exists(os.path.join(library, "libc_library.a")):
         sys.exit(f"{library}: has no libc_library.a; run `make proved` in bindings/c, or name its folder in KAFTANCLAY_LIB")
-    run(["make", "--no-print-directory", "-C", os.path.join(TOP, "bindings", folder), *words])
+    run(["make", "--no-print-directory", "-C", os.path.join(TOP, "bindings", folder), "WERROR=-Werror", *words])
+
+
+def build_by_pkg_config(folder, place, *words):
+    """Runs make in a copy of a folder of bindings/, below a place, over a library that is installed there: all by pkg-config, with no
+    toolchain on the path. Returns the copy."""
+    build("c", "install", f"PREFIX={place}/usr")
+    copy = os.path.join(place, "copy", folder)
+    os.makedirs(os.path.dirname(copy))
+    run(["cp", "-r", *(os.path.join(TOP, "bindings", name) for name in (folder, "databases", "library.mk")), os.path.dirname(copy)])
+    environment = {"PATH": "/usr/bin:/bin", "PKG_CONFIG_PATH": f"{place}/usr/lib/pkgconfig"}
+    for word in ("clean", "all"):
+        run(["make", "-C", copy, "KAFTANCLAY_ARCHIVE=pkg-config", word, *words], env=environment)
+    return copy
 
 
 def image_of_lines(lines, lg_k=12):
