@@ -147,6 +147,11 @@ kc_status read_sums(const void *image, size_t count, kc_compact_sums *out, const
     return status;
 }
 
+int is_ordered(const void *image, size_t count) {
+    const unsigned char *bytes = image;
+    return count >= 8 && bytes[1] == 3 && (bytes[5] & 16) != 0;
+}
+
 /* ---- Texts ---- */
 
 double number_of(kc_wide n) { return (double)n.high * 18446744073709551616.0 + (double)n.low; }

@@ -98,6 +98,12 @@ void sums_meet_free(sums_meet_group *group);
 kc_status read_image(const void *image, size_t count, kc_compact *out, const char **flaw);
 kc_status read_sums(const void *image, size_t count, kc_compact_sums *out, const char **flaw);
 
+/* Whether the bytes of an image that was read say that the hashes of the sketch ascend. */
+int is_ordered(const void *image, size_t count);
+/* Makes the hashes of a sketch ascend. Refused with KC_OUT_OF_MEMORY. */
+kc_status meet_order(kc_compact *sketch);
+kc_status sums_meet_order(kc_compact_sums *sketch);
+
 /* Room for the texts of these calls. */
 enum { DESCRIPTION_ROOM = 256 };
 /* Writes what `distinct show` prints of a sketch: its count, whether that is exact, bounds by two standard deviations of an estimate, how

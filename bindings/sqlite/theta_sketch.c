@@ -16,16 +16,28 @@ SQLITE_EXTENSION_INIT1
 #define MEET(name) meet_##name
 #include "each_kind.inc"
 
-static void build_step(context *call, int count, value **arguments) {
-    union_group *group = state_of(call, sizeof *group);
+/* Adds a key to a group, and returns whether the call goes on. */
+static int add_key(context *call, union_group *group, value *key) {
     const void *bytes;
     size_t length;
-    if (group == NULL || is_null(arguments[0]) || !take_lg_k(call, count, arguments, 1, DEFAULT_LG_K, &group->lg_k)) return;
-    switch (sqlite3_value_type(arguments[0])) {
-    case SQLITE_INTEGER: passed(call, union_add_number(group, (uint64_t)sqlite3_value_int64(arguments[0]))); break;
-    case SQLITE_FLOAT: refuse_key(call); break;
-    default: if (bytes_of(call, arguments[0], &bytes, &length)) passed(call, union_add_bytes(group, bytes, length));
+    switch (sqlite3_value_type(key)) {
+    case SQLITE_INTEGER: return passed(call, union_add_number(group, (uint64_t)sqlite3_value_int64(key)));
+    case SQLITE_FLOAT: refuse_key(call); return 0;
+    default: return bytes_of(call, key, &bytes, &length) && passed(call, union_add_bytes(group, bytes, length));
     }
+}
+
+static void build_step(context *call, int count, value **arguments) {
+    union_group *group = state_of(call, sizeof *group);
+    if (group == NULL || is_null(arguments[0]) || !take_lg_k(call, count, arguments, 1, DEFAULT_LG_K, &group->lg_k)) return;
+    add_key(call, group, arguments[0]);
+}
+
+static void add(context *call, int count, value **arguments) {
+    union_group group = {.lg_k = 0};
+    if (is_null(arguments[1])) sqlite3_result_value(call, arguments[0]);
+    else if (begin_add(call, count, arguments, 2, &group) && add_key(call, &group, arguments[1])) end_add(call, &group);
+    union_free(&group);
 }
 
 static void distinct_value(context *call) {
@@ -75,11 +87,15 @@ static const struct { const char *name; int arguments; step *add; end *final, *c
 #endif
 
 static const struct { const char *name; int arguments, flags; step *call; } functions[] = {
+    {"theta_sketch_add", 2, 0, add},
+    {"theta_sketch_add", 3, 0, add},
     {"theta_sketch_a_not_b", 2, 0, theta_a_not_b},
     {"theta_sketch_get_estimate", 1, 0, theta_get_estimate},
     {"theta_sketch_get_bounds", 1, SQLITE_RESULT_SUBTYPE, theta_get_bounds},
     {"theta_sketch_get_bounds", 2, SQLITE_RESULT_SUBTYPE, theta_get_bounds},
     {"theta_sketch_to_text", 1, 0, to_text},
+    {"tuple_sketch_add", 3, 0, sums_add},
+    {"tuple_sketch_add", 4, 0, sums_add},
     {"tuple_sketch_a_not_b", 2, 0, sums_a_not_b},
     {"tuple_sketch_get_estimate", 1, 0, sums_get_estimate},
     {"tuple_sketch_get_bounds", 1, SQLITE_RESULT_SUBTYPE, sums_get_bounds},

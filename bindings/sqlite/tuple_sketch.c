@@ -11,19 +11,33 @@ SQLITE_EXTENSION_INIT3
 #define MEET(name) sums_meet_##name
 #include "each_kind.inc"
 
-void sums_build_step(context *call, int count, value **arguments) {
-    sums_group *group = state_of(call, sizeof *group);
+/* Adds a value at a key to a group, and returns whether the call goes on. */
+static int add_value(context *call, sums_group *group, value *key, value *added) {
     const void *bytes;
     size_t length;
-    if (group == NULL || is_null(arguments[0]) || is_null(arguments[1]) || !take_lg_k(call, count, arguments, 2, DEFAULT_LG_K, &group->lg_k)) return;
-    sqlite3_int64 n = sqlite3_value_int64(arguments[1]);
-    int is_value = sqlite3_value_type(arguments[1]) == SQLITE_INTEGER && n >= 0;
-    if (!is_value) refuse(call, "a value is an integer from 0 to 9223372036854775807");
-    else switch (sqlite3_value_type(arguments[0])) {
-    case SQLITE_INTEGER: passed(call, sums_add_number(group, (uint64_t)sqlite3_value_int64(arguments[0]), (uint64_t)n)); break;
-    case SQLITE_FLOAT: refuse_key(call); break;
-    default: if (bytes_of(call, arguments[0], &bytes, &length)) passed(call, sums_add_bytes(group, bytes, length, (uint64_t)n));
+    sqlite3_int64 n = sqlite3_value_int64(added);
+    if (sqlite3_value_type(added) != SQLITE_INTEGER || n < 0) {
+        refuse(call, "a value is an integer from 0 to 9223372036854775807");
+        return 0;
     }
+    switch (sqlite3_value_type(key)) {
+    case SQLITE_INTEGER: return passed(call, sums_add_number(group, (uint64_t)sqlite3_value_int64(key), (uint64_t)n));
+    case SQLITE_FLOAT: refuse_key(call); return 0;
+    default: return bytes_of(call, key, &bytes, &length) && passed(call, sums_add_bytes(group, bytes, length, (uint64_t)n));
+    }
+}
+
+void sums_build_step(context *call, int count, value **arguments) {
+    sums_group *group = state_of(call, sizeof *group);
+    if (group == NULL || is_null(arguments[0]) || is_null(arguments[1])) return;
+    if (take_lg_k(call, count, arguments, 2, DEFAULT_LG_K, &group->lg_k)) add_value(call, group, arguments[0], arguments[1]);
+}
+
+void sums_add(context *call, int count, value **arguments) {
+    sums_group group = {.lg_k = 0};
+    if (is_null(arguments[1]) || is_null(arguments[2])) sqlite3_result_value(call, arguments[0]);
+    else if (begin_add(call, count, arguments, 3, &group) && add_value(call, &group, arguments[1], arguments[2])) end_add(call, &group);
+    sums_free(&group);
 }
 
 /* The state and the total of an argument's sketch; of NULL there are none. */

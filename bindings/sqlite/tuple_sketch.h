@@ -4,6 +4,7 @@
 #include "calls.h"
 
 void sums_build_step(context *call, int count, value **arguments);
+void sums_add(context *call, int count, value **arguments);
 void sums_union_step(context *call, int count, value **arguments);
 void sums_union_value(context *call);
 void sums_union_final(context *call);
