@@ -1,4 +1,4 @@
--- What 0.2.0 changes in the functions of 0.1.0; the rest is in the module that is loaded.
+-- What 0.2.0 adds to 0.1.0 and changes in it; the rest is in the module that is loaded.
 \echo Use "ALTER EXTENSION theta_sketch UPDATE TO '0.2.0'" to load this file. \quit
 
 -- They aren't STRICT any more: the union of a sketch and NULL is the sketch.
@@ -6,3 +6,340 @@ CREATE OR REPLACE FUNCTION theta_sketch_union(theta_sketch, theta_sketch) RETURN
     AS 'MODULE_PATHNAME', 'theta_sketch_union' LANGUAGE C IMMUTABLE PARALLEL SAFE;
 CREATE OR REPLACE FUNCTION theta_sketch_union(theta_sketch, theta_sketch, integer) RETURNS theta_sketch
     AS 'MODULE_PATHNAME', 'theta_sketch_union' LANGUAGE C IMMUTABLE PARALLEL SAFE;
+
+-- ---- A key that is added to a stored sketch ----
+
+CREATE FUNCTION theta_sketch_add(theta_sketch, text) RETURNS theta_sketch
+    AS 'MODULE_PATHNAME', 'theta_sketch_insert_bytes' LANGUAGE C IMMUTABLE PARALLEL SAFE COST 1000;
+CREATE FUNCTION theta_sketch_add(theta_sketch, text, integer) RETURNS theta_sketch
+    AS 'MODULE_PATHNAME', 'theta_sketch_insert_bytes' LANGUAGE C IMMUTABLE PARALLEL SAFE COST 1000;
+CREATE FUNCTION theta_sketch_add(theta_sketch, bytea) RETURNS theta_sketch
+    AS 'MODULE_PATHNAME', 'theta_sketch_insert_bytes' LANGUAGE C IMMUTABLE PARALLEL SAFE COST 1000;
+CREATE FUNCTION theta_sketch_add(theta_sketch, bytea, integer) RETURNS theta_sketch
+    AS 'MODULE_PATHNAME', 'theta_sketch_insert_bytes' LANGUAGE C IMMUTABLE PARALLEL SAFE COST 1000;
+CREATE FUNCTION theta_sketch_add(theta_sketch, bigint) RETURNS theta_sketch
+    AS 'MODULE_PATHNAME', 'theta_sketch_insert_int8' LANGUAGE C IMMUTABLE PARALLEL SAFE COST 1000;
+CREATE FUNCTION theta_sketch_add(theta_sketch, bigint, integer) RETURNS theta_sketch
+    AS 'MODULE_PATHNAME', 'theta_sketch_insert_int8' LANGUAGE C IMMUTABLE PARALLEL SAFE COST 1000;
+
+-- ---- Tuple sketches: an image, whose text is base64, with the sum of the values of each key ----
+
+CREATE TYPE tuple_sketch;
+
+CREATE FUNCTION tuple_sketch_in(cstring) RETURNS tuple_sketch
+    AS 'MODULE_PATHNAME', 'tuple_sketch_in' LANGUAGE C IMMUTABLE STRICT PARALLEL SAFE COST 1000;
+CREATE FUNCTION tuple_sketch_out(tuple_sketch) RETURNS cstring
+    AS 'MODULE_PATHNAME', 'tuple_sketch_out' LANGUAGE C IMMUTABLE STRICT PARALLEL SAFE COST 1000;
+CREATE FUNCTION tuple_sketch_recv(internal) RETURNS tuple_sketch
+    AS 'MODULE_PATHNAME', 'tuple_sketch_recv' LANGUAGE C IMMUTABLE STRICT PARALLEL SAFE COST 1000;
+CREATE FUNCTION tuple_sketch_send(tuple_sketch) RETURNS bytea
+    AS 'MODULE_PATHNAME', 'tuple_sketch_send' LANGUAGE C IMMUTABLE STRICT PARALLEL SAFE COST 1;
+
+CREATE TYPE tuple_sketch (
+    INPUT = tuple_sketch_in, OUTPUT = tuple_sketch_out, RECEIVE = tuple_sketch_recv, SEND = tuple_sketch_send, STORAGE = external);
+
+CREATE FUNCTION tuple_sketch_from_bytea(bytea) RETURNS tuple_sketch
+    AS 'MODULE_PATHNAME', 'tuple_sketch_from_bytea' LANGUAGE C IMMUTABLE STRICT PARALLEL SAFE COST 1000;
+CREATE CAST (bytea AS tuple_sketch) WITH FUNCTION tuple_sketch_from_bytea(bytea) AS ASSIGNMENT;
+CREATE CAST (tuple_sketch AS bytea) WITHOUT FUNCTION AS ASSIGNMENT;
+
+CREATE FUNCTION tuple_sketch_get_estimate(tuple_sketch) RETURNS double precision
+    AS 'MODULE_PATHNAME', 'tuple_sketch_get_estimate' LANGUAGE C IMMUTABLE STRICT PARALLEL SAFE COST 1000;
+CREATE FUNCTION tuple_sketch_get_total(tuple_sketch) RETURNS double precision
+    AS 'MODULE_PATHNAME', 'tuple_sketch_get_total' LANGUAGE C IMMUTABLE STRICT PARALLEL SAFE COST 1000;
+CREATE FUNCTION tuple_sketch_get_bounds(tuple_sketch) RETURNS double precision[]
+    AS 'MODULE_PATHNAME', 'tuple_sketch_get_bounds' LANGUAGE C IMMUTABLE STRICT PARALLEL SAFE COST 1000;
+CREATE FUNCTION tuple_sketch_get_bounds(tuple_sketch, integer) RETURNS double precision[]
+    AS 'MODULE_PATHNAME', 'tuple_sketch_get_bounds' LANGUAGE C IMMUTABLE STRICT PARALLEL SAFE COST 1000;
+CREATE FUNCTION tuple_sketch_to_string(tuple_sketch) RETURNS text
+    AS 'MODULE_PATHNAME', 'tuple_sketch_to_string' LANGUAGE C IMMUTABLE STRICT PARALLEL SAFE COST 1000;
+CREATE FUNCTION tuple_sketch_union(tuple_sketch, tuple_sketch) RETURNS tuple_sketch
+    AS 'MODULE_PATHNAME', 'tuple_sketch_union' LANGUAGE C IMMUTABLE PARALLEL SAFE COST 1000;
+CREATE FUNCTION tuple_sketch_union(tuple_sketch, tuple_sketch, integer) RETURNS tuple_sketch
+    AS 'MODULE_PATHNAME', 'tuple_sketch_union' LANGUAGE C IMMUTABLE PARALLEL SAFE COST 1000;
+CREATE FUNCTION tuple_sketch_intersection(tuple_sketch, tuple_sketch) RETURNS tuple_sketch
+    AS 'MODULE_PATHNAME', 'tuple_sketch_intersection' LANGUAGE C IMMUTABLE STRICT PARALLEL SAFE COST 1000;
+CREATE FUNCTION tuple_sketch_a_not_b(tuple_sketch, tuple_sketch) RETURNS tuple_sketch
+    AS 'MODULE_PATHNAME', 'tuple_sketch_a_not_b' LANGUAGE C IMMUTABLE STRICT PARALLEL SAFE COST 1000;
+CREATE FUNCTION tuple_sketch_add(tuple_sketch, text, bigint) RETURNS tuple_sketch
+    AS 'MODULE_PATHNAME', 'tuple_sketch_insert_bytes' LANGUAGE C IMMUTABLE PARALLEL SAFE COST 1000;
+CREATE FUNCTION tuple_sketch_add(tuple_sketch, text, bigint, integer) RETURNS tuple_sketch
+    AS 'MODULE_PATHNAME', 'tuple_sketch_insert_bytes' LANGUAGE C IMMUTABLE PARALLEL SAFE COST 1000;
+CREATE FUNCTION tuple_sketch_add(tuple_sketch, bytea, bigint) RETURNS tuple_sketch
+    AS 'MODULE_PATHNAME', 'tuple_sketch_insert_bytes' LANGUAGE C IMMUTABLE PARALLEL SAFE COST 1000;
+CREATE FUNCTION tuple_sketch_add(tuple_sketch, bytea, bigint, integer) RETURNS tuple_sketch
+    AS 'MODULE_PATHNAME', 'tuple_sketch_insert_bytes' LANGUAGE C IMMUTABLE PARALLEL SAFE COST 1000;
+CREATE FUNCTION tuple_sketch_add(tuple_sketch, bigint, bigint) RETURNS tuple_sketch
+    AS 'MODULE_PATHNAME', 'tuple_sketch_insert_int8' LANGUAGE C IMMUTABLE PARALLEL SAFE COST 1000;
+CREATE FUNCTION tuple_sketch_add(tuple_sketch, bigint, bigint, integer) RETURNS tuple_sketch
+    AS 'MODULE_PATHNAME', 'tuple_sketch_insert_int8' LANGUAGE C IMMUTABLE PARALLEL SAFE COST 1000;
+
+CREATE FUNCTION tuple_sketch_add_bytes(internal, text, bigint) RETURNS internal
+    AS 'MODULE_PATHNAME', 'tuple_sketch_add_bytes' LANGUAGE C IMMUTABLE PARALLEL SAFE COST 2;
+CREATE FUNCTION tuple_sketch_add_bytes(internal, text, bigint, integer) RETURNS internal
+    AS 'MODULE_PATHNAME', 'tuple_sketch_add_bytes' LANGUAGE C IMMUTABLE PARALLEL SAFE COST 2;
+CREATE FUNCTION tuple_sketch_add_bytes(internal, bytea, bigint) RETURNS internal
+    AS 'MODULE_PATHNAME', 'tuple_sketch_add_bytes' LANGUAGE C IMMUTABLE PARALLEL SAFE COST 2;
+CREATE FUNCTION tuple_sketch_add_bytes(internal, bytea, bigint, integer) RETURNS internal
+    AS 'MODULE_PATHNAME', 'tuple_sketch_add_bytes' LANGUAGE C IMMUTABLE PARALLEL SAFE COST 2;
+CREATE FUNCTION tuple_sketch_add_int8(internal, bigint, bigint) RETURNS internal
+    AS 'MODULE_PATHNAME', 'tuple_sketch_add_int8' LANGUAGE C IMMUTABLE PARALLEL SAFE COST 2;
+CREATE FUNCTION tuple_sketch_add_int8(internal, bigint, bigint, integer) RETURNS internal
+    AS 'MODULE_PATHNAME', 'tuple_sketch_add_int8' LANGUAGE C IMMUTABLE PARALLEL SAFE COST 2;
+CREATE FUNCTION tuple_sketch_add_sketch(internal, tuple_sketch) RETURNS internal
+    AS 'MODULE_PATHNAME', 'tuple_sketch_add_sketch' LANGUAGE C IMMUTABLE PARALLEL SAFE COST 1000;
+CREATE FUNCTION tuple_sketch_add_sketch(internal, tuple_sketch, integer) RETURNS internal
+    AS 'MODULE_PATHNAME', 'tuple_sketch_add_sketch' LANGUAGE C IMMUTABLE PARALLEL SAFE COST 1000;
+CREATE FUNCTION tuple_sketch_combine(internal, internal) RETURNS internal
+    AS 'MODULE_PATHNAME', 'tuple_sketch_combine' LANGUAGE C IMMUTABLE PARALLEL SAFE COST 1000;
+CREATE FUNCTION tuple_sketch_serialize(internal) RETURNS bytea
+    AS 'MODULE_PATHNAME', 'tuple_sketch_serialize' LANGUAGE C IMMUTABLE STRICT PARALLEL SAFE COST 1000;
+CREATE FUNCTION tuple_sketch_deserialize(bytea, internal) RETURNS internal
+    AS 'MODULE_PATHNAME', 'tuple_sketch_deserialize' LANGUAGE C IMMUTABLE STRICT PARALLEL SAFE COST 1000;
+CREATE FUNCTION tuple_sketch_final(internal) RETURNS tuple_sketch
+    AS 'MODULE_PATHNAME', 'tuple_sketch_final' LANGUAGE C IMMUTABLE PARALLEL SAFE COST 1000;
+CREATE AGGREGATE tuple_sketch_build(text, bigint) (
+    SFUNC = tuple_sketch_add_bytes, STYPE = internal, FINALFUNC = tuple_sketch_final, COMBINEFUNC = tuple_sketch_combine,
+    SERIALFUNC = tuple_sketch_serialize, DESERIALFUNC = tuple_sketch_deserialize, PARALLEL = SAFE);
+CREATE AGGREGATE tuple_sketch_build(text, bigint, integer) (
+    SFUNC = tuple_sketch_add_bytes, STYPE = internal, FINALFUNC = tuple_sketch_final, COMBINEFUNC = tuple_sketch_combine,
+    SERIALFUNC = tuple_sketch_serialize, DESERIALFUNC = tuple_sketch_deserialize, PARALLEL = SAFE);
+CREATE AGGREGATE tuple_sketch_build(bytea, bigint) (
+    SFUNC = tuple_sketch_add_bytes, STYPE = internal, FINALFUNC = tuple_sketch_final, COMBINEFUNC = tuple_sketch_combine,
+    SERIALFUNC = tuple_sketch_serialize, DESERIALFUNC = tuple_sketch_deserialize, PARALLEL = SAFE);
+CREATE AGGREGATE tuple_sketch_build(bytea, bigint, integer) (
+    SFUNC = tuple_sketch_add_bytes, STYPE = internal, FINALFUNC = tuple_sketch_final, COMBINEFUNC = tuple_sketch_combine,
+    SERIALFUNC = tuple_sketch_serialize, DESERIALFUNC = tuple_sketch_deserialize, PARALLEL = SAFE);
+CREATE AGGREGATE tuple_sketch_build(bigint, bigint) (
+    SFUNC = tuple_sketch_add_int8, STYPE = internal, FINALFUNC = tuple_sketch_final, COMBINEFUNC = tuple_sketch_combine,
+    SERIALFUNC = tuple_sketch_serialize, DESERIALFUNC = tuple_sketch_deserialize, PARALLEL = SAFE);
+CREATE AGGREGATE tuple_sketch_build(bigint, bigint, integer) (
+    SFUNC = tuple_sketch_add_int8, STYPE = internal, FINALFUNC = tuple_sketch_final, COMBINEFUNC = tuple_sketch_combine,
+    SERIALFUNC = tuple_sketch_serialize, DESERIALFUNC = tuple_sketch_deserialize, PARALLEL = SAFE);
+CREATE AGGREGATE tuple_sketch_union(tuple_sketch) (
+    SFUNC = tuple_sketch_add_sketch, STYPE = internal, FINALFUNC = tuple_sketch_final, COMBINEFUNC = tuple_sketch_combine,
+    SERIALFUNC = tuple_sketch_serialize, DESERIALFUNC = tuple_sketch_deserialize, PARALLEL = SAFE);
+CREATE AGGREGATE tuple_sketch_union(tuple_sketch, integer) (
+    SFUNC = tuple_sketch_add_sketch, STYPE = internal, FINALFUNC = tuple_sketch_final, COMBINEFUNC = tuple_sketch_combine,
+    SERIALFUNC = tuple_sketch_serialize, DESERIALFUNC = tuple_sketch_deserialize, PARALLEL = SAFE);
+CREATE FUNCTION tuple_sketch_meet(internal, tuple_sketch) RETURNS internal
+    AS 'MODULE_PATHNAME', 'tuple_sketch_meet' LANGUAGE C IMMUTABLE PARALLEL SAFE COST 1000;
+CREATE FUNCTION tuple_sketch_meet_combine(internal, internal) RETURNS internal
+    AS 'MODULE_PATHNAME', 'tuple_sketch_meet_combine' LANGUAGE C IMMUTABLE PARALLEL SAFE COST 1000;
+CREATE FUNCTION tuple_sketch_meet_serialize(internal) RETURNS bytea
+    AS 'MODULE_PATHNAME', 'tuple_sketch_meet_serialize' LANGUAGE C IMMUTABLE STRICT PARALLEL SAFE COST 1000;
+CREATE FUNCTION tuple_sketch_meet_deserialize(bytea, internal) RETURNS internal
+    AS 'MODULE_PATHNAME', 'tuple_sketch_meet_deserialize' LANGUAGE C IMMUTABLE STRICT PARALLEL SAFE COST 1000;
+CREATE FUNCTION tuple_sketch_meet_final(internal) RETURNS tuple_sketch
+    AS 'MODULE_PATHNAME', 'tuple_sketch_meet_final' LANGUAGE C IMMUTABLE PARALLEL SAFE COST 1000;
+CREATE AGGREGATE tuple_sketch_intersection(tuple_sketch) (
+    SFUNC = tuple_sketch_meet, STYPE = internal, FINALFUNC = tuple_sketch_meet_final, COMBINEFUNC = tuple_sketch_meet_combine,
+    SERIALFUNC = tuple_sketch_meet_serialize, DESERIALFUNC = tuple_sketch_meet_deserialize, PARALLEL = SAFE);
+
+-- ---- Comparisons: equal sketches have equal images, so these are PostgreSQL's own functions of bytes ----
+
+CREATE FUNCTION theta_sketch_eq(theta_sketch, theta_sketch) RETURNS boolean AS 'byteaeq' LANGUAGE internal IMMUTABLE STRICT LEAKPROOF PARALLEL SAFE;
+CREATE FUNCTION theta_sketch_ne(theta_sketch, theta_sketch) RETURNS boolean AS 'byteane' LANGUAGE internal IMMUTABLE STRICT LEAKPROOF PARALLEL SAFE;
+CREATE FUNCTION theta_sketch_lt(theta_sketch, theta_sketch) RETURNS boolean AS 'bytealt' LANGUAGE internal IMMUTABLE STRICT LEAKPROOF PARALLEL SAFE;
+CREATE FUNCTION theta_sketch_le(theta_sketch, theta_sketch) RETURNS boolean AS 'byteale' LANGUAGE internal IMMUTABLE STRICT LEAKPROOF PARALLEL SAFE;
+CREATE FUNCTION theta_sketch_gt(theta_sketch, theta_sketch) RETURNS boolean AS 'byteagt' LANGUAGE internal IMMUTABLE STRICT LEAKPROOF PARALLEL SAFE;
+CREATE FUNCTION theta_sketch_ge(theta_sketch, theta_sketch) RETURNS boolean AS 'byteage' LANGUAGE internal IMMUTABLE STRICT LEAKPROOF PARALLEL SAFE;
+CREATE FUNCTION theta_sketch_cmp(theta_sketch, theta_sketch) RETURNS integer AS 'byteacmp' LANGUAGE internal IMMUTABLE STRICT LEAKPROOF PARALLEL SAFE;
+CREATE FUNCTION theta_sketch_hash(theta_sketch) RETURNS integer AS 'hashvarlena' LANGUAGE internal IMMUTABLE STRICT PARALLEL SAFE;
+CREATE FUNCTION theta_sketch_hash_extended(theta_sketch, bigint) RETURNS bigint AS 'hashvarlenaextended' LANGUAGE internal IMMUTABLE STRICT PARALLEL SAFE;
+CREATE OPERATOR = (LEFTARG = theta_sketch, RIGHTARG = theta_sketch, FUNCTION = theta_sketch_eq, COMMUTATOR = =, NEGATOR = <>,
+    RESTRICT = eqsel, JOIN = eqjoinsel, HASHES, MERGES);
+CREATE OPERATOR <> (LEFTARG = theta_sketch, RIGHTARG = theta_sketch, FUNCTION = theta_sketch_ne, COMMUTATOR = <>, NEGATOR = =,
+    RESTRICT = neqsel, JOIN = neqjoinsel);
+CREATE OPERATOR < (LEFTARG = theta_sketch, RIGHTARG = theta_sketch, FUNCTION = theta_sketch_lt, COMMUTATOR = >, NEGATOR = >=,
+    RESTRICT = scalarltsel, JOIN = scalarltjoinsel);
+CREATE OPERATOR <= (LEFTARG = theta_sketch, RIGHTARG = theta_sketch, FUNCTION = theta_sketch_le, COMMUTATOR = >=, NEGATOR = >,
+    RESTRICT = scalarlesel, JOIN = scalarlejoinsel);
+CREATE OPERATOR > (LEFTARG = theta_sketch, RIGHTARG = theta_sketch, FUNCTION = theta_sketch_gt, COMMUTATOR = <, NEGATOR = <=,
+    RESTRICT = scalargtsel, JOIN = scalargtjoinsel);
+CREATE OPERATOR >= (LEFTARG = theta_sketch, RIGHTARG = theta_sketch, FUNCTION = theta_sketch_ge, COMMUTATOR = <=, NEGATOR = <,
+    RESTRICT = scalargesel, JOIN = scalargejoinsel);
+CREATE OPERATOR CLASS theta_sketch_btree_ops DEFAULT FOR TYPE theta_sketch USING btree AS
+    OPERATOR 1 <, OPERATOR 2 <=, OPERATOR 3 =, OPERATOR 4 >=, OPERATOR 5 >, FUNCTION 1 theta_sketch_cmp(theta_sketch, theta_sketch);
+CREATE OPERATOR CLASS theta_sketch_hash_ops DEFAULT FOR TYPE theta_sketch USING hash AS
+    OPERATOR 1 =, FUNCTION 1 theta_sketch_hash(theta_sketch), FUNCTION 2 theta_sketch_hash_extended(theta_sketch, bigint);
+
+CREATE FUNCTION tuple_sketch_eq(tuple_sketch, tuple_sketch) RETURNS boolean AS 'byteaeq' LANGUAGE internal IMMUTABLE STRICT LEAKPROOF PARALLEL SAFE;
+CREATE FUNCTION tuple_sketch_ne(tuple_sketch, tuple_sketch) RETURNS boolean AS 'byteane' LANGUAGE internal IMMUTABLE STRICT LEAKPROOF PARALLEL SAFE;
+CREATE FUNCTION tuple_sketch_lt(tuple_sketch, tuple_sketch) RETURNS boolean AS 'bytealt' LANGUAGE internal IMMUTABLE STRICT LEAKPROOF PARALLEL SAFE;
+CREATE FUNCTION tuple_sketch_le(tuple_sketch, tuple_sketch) RETURNS boolean AS 'byteale' LANGUAGE internal IMMUTABLE STRICT LEAKPROOF PARALLEL SAFE;
+CREATE FUNCTION tuple_sketch_gt(tuple_sketch, tuple_sketch) RETURNS boolean AS 'byteagt' LANGUAGE internal IMMUTABLE STRICT LEAKPROOF PARALLEL SAFE;
+CREATE FUNCTION tuple_sketch_ge(tuple_sketch, tuple_sketch) RETURNS boolean AS 'byteage' LANGUAGE internal IMMUTABLE STRICT LEAKPROOF PARALLEL SAFE;
+CREATE FUNCTION tuple_sketch_cmp(tuple_sketch, tuple_sketch) RETURNS integer AS 'byteacmp' LANGUAGE internal IMMUTABLE STRICT LEAKPROOF PARALLEL SAFE;
+CREATE FUNCTION tuple_sketch_hash(tuple_sketch) RETURNS integer AS 'hashvarlena' LANGUAGE internal IMMUTABLE STRICT PARALLEL SAFE;
+CREATE FUNCTION tuple_sketch_hash_extended(tuple_sketch, bigint) RETURNS bigint AS 'hashvarlenaextended' LANGUAGE internal IMMUTABLE STRICT PARALLEL SAFE;
+CREATE OPERATOR = (LEFTARG = tuple_sketch, RIGHTARG = tuple_sketch, FUNCTION = tuple_sketch_eq, COMMUTATOR = =, NEGATOR = <>,
+    RESTRICT = eqsel, JOIN = eqjoinsel, HASHES, MERGES);
+CREATE OPERATOR <> (LEFTARG = tuple_sketch, RIGHTARG = tuple_sketch, FUNCTION = tuple_sketch_ne, COMMUTATOR = <>, NEGATOR = =,
+    RESTRICT = neqsel, JOIN = neqjoinsel);
+CREATE OPERATOR < (LEFTARG = tuple_sketch, RIGHTARG = tuple_sketch, FUNCTION = tuple_sketch_lt, COMMUTATOR = >, NEGATOR = >=,
+    RESTRICT = scalarltsel, JOIN = scalarltjoinsel);
+CREATE OPERATOR <= (LEFTARG = tuple_sketch, RIGHTARG = tuple_sketch, FUNCTION = tuple_sketch_le, COMMUTATOR = >=, NEGATOR = >,
+    RESTRICT = scalarlesel, JOIN = scalarlejoinsel);
+CREATE OPERATOR > (LEFTARG = tuple_sketch, RIGHTARG = tuple_sketch, FUNCTION = tuple_sketch_gt, COMMUTATOR = <, NEGATOR = <=,
+    RESTRICT = scalargtsel, JOIN = scalargtjoinsel);
+CREATE OPERATOR >= (LEFTARG = tuple_sketch, RIGHTARG = tuple_sketch, FUNCTION = tuple_sketch_ge, COMMUTATOR = <=, NEGATOR = <,
+    RESTRICT = scalargesel, JOIN = scalargejoinsel);
+CREATE OPERATOR CLASS tuple_sketch_btree_ops DEFAULT FOR TYPE tuple_sketch USING btree AS
+    OPERATOR 1 <, OPERATOR 2 <=, OPERATOR 3 =, OPERATOR 4 >=, OPERATOR 5 >, FUNCTION 1 tuple_sketch_cmp(tuple_sketch, tuple_sketch);
+CREATE OPERATOR CLASS tuple_sketch_hash_ops DEFAULT FOR TYPE tuple_sketch USING hash AS
+    OPERATOR 1 =, FUNCTION 1 tuple_sketch_hash(tuple_sketch), FUNCTION 2 tuple_sketch_hash_extended(tuple_sketch, bigint);
+
+-- ---- What a call costs, in units of about 25 ns: most read or write an image ----
+
+ALTER FUNCTION theta_sketch_in(cstring) COST 1000;
+ALTER FUNCTION theta_sketch_out(theta_sketch) COST 1000;
+ALTER FUNCTION theta_sketch_recv(internal) COST 1000;
+ALTER FUNCTION theta_sketch_from_bytea(bytea) COST 1000;
+ALTER FUNCTION theta_sketch_get_estimate(theta_sketch) COST 1000;
+ALTER FUNCTION theta_sketch_get_estimate_and_bounds(theta_sketch) COST 1000;
+ALTER FUNCTION theta_sketch_get_estimate_and_bounds(theta_sketch, integer) COST 1000;
+ALTER FUNCTION theta_sketch_to_string(theta_sketch) COST 1000;
+ALTER FUNCTION theta_sketch_union(theta_sketch, theta_sketch) COST 1000;
+ALTER FUNCTION theta_sketch_union(theta_sketch, theta_sketch, integer) COST 1000;
+ALTER FUNCTION theta_sketch_intersection(theta_sketch, theta_sketch) COST 1000;
+ALTER FUNCTION theta_sketch_a_not_b(theta_sketch, theta_sketch) COST 1000;
+ALTER FUNCTION theta_sketch_add_bytes(internal, text) COST 2;
+ALTER FUNCTION theta_sketch_add_bytes(internal, text, integer) COST 2;
+ALTER FUNCTION theta_sketch_add_bytes(internal, bytea) COST 2;
+ALTER FUNCTION theta_sketch_add_bytes(internal, bytea, integer) COST 2;
+ALTER FUNCTION theta_sketch_add_int8(internal, bigint) COST 2;
+ALTER FUNCTION theta_sketch_add_int8(internal, bigint, integer) COST 2;
+ALTER FUNCTION theta_sketch_add_sketch(internal, theta_sketch) COST 1000;
+ALTER FUNCTION theta_sketch_add_sketch(internal, theta_sketch, integer) COST 1000;
+ALTER FUNCTION theta_sketch_combine(internal, internal) COST 1000;
+ALTER FUNCTION theta_sketch_serialize(internal) COST 1000;
+ALTER FUNCTION theta_sketch_deserialize(bytea, internal) COST 1000;
+ALTER FUNCTION theta_sketch_final(internal) COST 1000;
+ALTER FUNCTION theta_sketch_final_estimate(internal) COST 1000;
+ALTER FUNCTION theta_sketch_meet(internal, theta_sketch) COST 1000;
+ALTER FUNCTION theta_sketch_meet_combine(internal, internal) COST 1000;
+ALTER FUNCTION theta_sketch_meet_serialize(internal) COST 1000;
+ALTER FUNCTION theta_sketch_meet_deserialize(bytea, internal) COST 1000;
+ALTER FUNCTION theta_sketch_meet_final(internal) COST 1000;
+
+-- ---- What each is for ----
+
+COMMENT ON TYPE theta_sketch IS 'a sketch of keys';
+COMMENT ON TYPE tuple_sketch IS 'a sketch of keys, and of the sums of their values';
+COMMENT ON FUNCTION theta_sketch_in(cstring) IS 'reads a sketch from base64';
+COMMENT ON FUNCTION theta_sketch_out(theta_sketch) IS 'writes a sketch in base64';
+COMMENT ON FUNCTION theta_sketch_recv(internal) IS 'reads the image of a sketch';
+COMMENT ON FUNCTION theta_sketch_send(theta_sketch) IS 'writes the image of a sketch';
+COMMENT ON FUNCTION theta_sketch_from_bytea(bytea) IS 'reads the image of a sketch';
+COMMENT ON FUNCTION theta_sketch_get_estimate(theta_sketch) IS 'estimates how many different keys a sketch was given';
+COMMENT ON FUNCTION theta_sketch_get_estimate_and_bounds(theta_sketch) IS 'the estimate, a lower and an upper bound, by 1, 2 or 3 standard deviations (2)';
+COMMENT ON FUNCTION theta_sketch_get_estimate_and_bounds(theta_sketch, integer) IS 'the estimate, a lower and an upper bound, by 1, 2 or 3 standard deviations (2)';
+COMMENT ON FUNCTION theta_sketch_to_string(theta_sketch) IS 'describes a sketch';
+COMMENT ON FUNCTION theta_sketch_union(theta_sketch, theta_sketch) IS 'the union of two sketches';
+COMMENT ON FUNCTION theta_sketch_union(theta_sketch, theta_sketch, integer) IS 'the union of two sketches, of 2^lg_k nominal entries';
+COMMENT ON FUNCTION theta_sketch_intersection(theta_sketch, theta_sketch) IS 'the intersection of two sketches';
+COMMENT ON FUNCTION theta_sketch_a_not_b(theta_sketch, theta_sketch) IS 'the first sketch without the keys of the second';
+COMMENT ON FUNCTION theta_sketch_add_bytes(internal, text) IS 'adds a key to a state';
+COMMENT ON FUNCTION theta_sketch_add_bytes(internal, text, integer) IS 'adds a key to a state';
+COMMENT ON FUNCTION theta_sketch_add_bytes(internal, bytea) IS 'adds a key to a state';
+COMMENT ON FUNCTION theta_sketch_add_bytes(internal, bytea, integer) IS 'adds a key to a state';
+COMMENT ON FUNCTION theta_sketch_add_int8(internal, bigint) IS 'adds a key to a state';
+COMMENT ON FUNCTION theta_sketch_add_int8(internal, bigint, integer) IS 'adds a key to a state';
+COMMENT ON FUNCTION theta_sketch_add_sketch(internal, theta_sketch) IS 'adds a sketch to a state';
+COMMENT ON FUNCTION theta_sketch_add_sketch(internal, theta_sketch, integer) IS 'adds a sketch to a state';
+COMMENT ON FUNCTION theta_sketch_combine(internal, internal) IS 'merges two states';
+COMMENT ON FUNCTION theta_sketch_serialize(internal) IS 'writes a state';
+COMMENT ON FUNCTION theta_sketch_deserialize(bytea, internal) IS 'reads a state';
+COMMENT ON FUNCTION theta_sketch_final(internal) IS 'the sketch of a state';
+COMMENT ON FUNCTION theta_sketch_final_estimate(internal) IS 'the estimate of a state';
+COMMENT ON AGGREGATE theta_sketch_build(text) IS 'the sketch of all keys';
+COMMENT ON AGGREGATE theta_sketch_build(text, integer) IS 'the sketch of all keys, of 2^lg_k nominal entries';
+COMMENT ON AGGREGATE theta_sketch_build(bytea) IS 'the sketch of all keys';
+COMMENT ON AGGREGATE theta_sketch_build(bytea, integer) IS 'the sketch of all keys, of 2^lg_k nominal entries';
+COMMENT ON AGGREGATE theta_sketch_build(bigint) IS 'the sketch of all keys';
+COMMENT ON AGGREGATE theta_sketch_build(bigint, integer) IS 'the sketch of all keys, of 2^lg_k nominal entries';
+COMMENT ON AGGREGATE theta_sketch_distinct(text) IS 'estimates how many keys differ';
+COMMENT ON AGGREGATE theta_sketch_distinct(text, integer) IS 'estimates how many keys differ, of 2^lg_k nominal entries';
+COMMENT ON AGGREGATE theta_sketch_distinct(bytea) IS 'estimates how many keys differ';
+COMMENT ON AGGREGATE theta_sketch_distinct(bytea, integer) IS 'estimates how many keys differ, of 2^lg_k nominal entries';
+COMMENT ON AGGREGATE theta_sketch_distinct(bigint) IS 'estimates how many keys differ';
+COMMENT ON AGGREGATE theta_sketch_distinct(bigint, integer) IS 'estimates how many keys differ, of 2^lg_k nominal entries';
+COMMENT ON AGGREGATE theta_sketch_union(theta_sketch) IS 'the union of all sketches';
+COMMENT ON AGGREGATE theta_sketch_union(theta_sketch, integer) IS 'the union of all sketches, of 2^lg_k nominal entries';
+COMMENT ON FUNCTION theta_sketch_meet(internal, theta_sketch) IS 'intersects a state with a sketch';
+COMMENT ON FUNCTION theta_sketch_meet_combine(internal, internal) IS 'intersects two states';
+COMMENT ON FUNCTION theta_sketch_meet_serialize(internal) IS 'writes a state';
+COMMENT ON FUNCTION theta_sketch_meet_deserialize(bytea, internal) IS 'reads a state';
+COMMENT ON FUNCTION theta_sketch_meet_final(internal) IS 'the sketch of a state';
+COMMENT ON AGGREGATE theta_sketch_intersection(theta_sketch) IS 'the intersection of all sketches';
+COMMENT ON FUNCTION theta_sketch_add(theta_sketch, text) IS 'the sketch with one more key';
+COMMENT ON FUNCTION theta_sketch_add(theta_sketch, text, integer) IS 'the sketch with one more key, of 2^lg_k nominal entries';
+COMMENT ON FUNCTION theta_sketch_add(theta_sketch, bytea) IS 'the sketch with one more key';
+COMMENT ON FUNCTION theta_sketch_add(theta_sketch, bytea, integer) IS 'the sketch with one more key, of 2^lg_k nominal entries';
+COMMENT ON FUNCTION theta_sketch_add(theta_sketch, bigint) IS 'the sketch with one more key';
+COMMENT ON FUNCTION theta_sketch_add(theta_sketch, bigint, integer) IS 'the sketch with one more key, of 2^lg_k nominal entries';
+COMMENT ON FUNCTION tuple_sketch_in(cstring) IS 'reads a sketch from base64';
+COMMENT ON FUNCTION tuple_sketch_out(tuple_sketch) IS 'writes a sketch in base64';
+COMMENT ON FUNCTION tuple_sketch_recv(internal) IS 'reads the image of a sketch';
+COMMENT ON FUNCTION tuple_sketch_send(tuple_sketch) IS 'writes the image of a sketch';
+COMMENT ON FUNCTION tuple_sketch_from_bytea(bytea) IS 'reads the image of a sketch';
+COMMENT ON FUNCTION tuple_sketch_get_estimate(tuple_sketch) IS 'estimates how many different keys a sketch was given';
+COMMENT ON FUNCTION tuple_sketch_get_total(tuple_sketch) IS 'estimates the sum of all values that a sketch was given';
+COMMENT ON FUNCTION tuple_sketch_get_bounds(tuple_sketch) IS 'a lower and an upper bound of the number of keys, by 1, 2 or 3 standard deviations (2)';
+COMMENT ON FUNCTION tuple_sketch_get_bounds(tuple_sketch, integer) IS 'a lower and an upper bound of the number of keys, by 1, 2 or 3 standard deviations (2)';
+COMMENT ON FUNCTION tuple_sketch_to_string(tuple_sketch) IS 'describes a sketch';
+COMMENT ON FUNCTION tuple_sketch_union(tuple_sketch, tuple_sketch) IS 'the union of two sketches, which adds up the sums of a key';
+COMMENT ON FUNCTION tuple_sketch_union(tuple_sketch, tuple_sketch, integer) IS 'the union of two sketches, which adds up the sums of a key, of 2^lg_k nominal entries';
+COMMENT ON FUNCTION tuple_sketch_intersection(tuple_sketch, tuple_sketch) IS 'the intersection of two sketches, which adds up the sums of a key';
+COMMENT ON FUNCTION tuple_sketch_a_not_b(tuple_sketch, tuple_sketch) IS 'the first sketch without the keys of the second';
+COMMENT ON FUNCTION tuple_sketch_add(tuple_sketch, text, bigint) IS 'the sketch with a value added to the sum of a key';
+COMMENT ON FUNCTION tuple_sketch_add(tuple_sketch, text, bigint, integer) IS 'the sketch with a value added to the sum of a key, of 2^lg_k nominal entries';
+COMMENT ON FUNCTION tuple_sketch_add(tuple_sketch, bytea, bigint) IS 'the sketch with a value added to the sum of a key';
+COMMENT ON FUNCTION tuple_sketch_add(tuple_sketch, bytea, bigint, integer) IS 'the sketch with a value added to the sum of a key, of 2^lg_k nominal entries';
+COMMENT ON FUNCTION tuple_sketch_add(tuple_sketch, bigint, bigint) IS 'the sketch with a value added to the sum of a key';
+COMMENT ON FUNCTION tuple_sketch_add(tuple_sketch, bigint, bigint, integer) IS 'the sketch with a value added to the sum of a key, of 2^lg_k nominal entries';
+COMMENT ON FUNCTION tuple_sketch_add_bytes(internal, text, bigint) IS 'adds a value of a key to a state';
+COMMENT ON FUNCTION tuple_sketch_add_bytes(internal, text, bigint, integer) IS 'adds a value of a key to a state';
+COMMENT ON FUNCTION tuple_sketch_add_bytes(internal, bytea, bigint) IS 'adds a value of a key to a state';
+COMMENT ON FUNCTION tuple_sketch_add_bytes(internal, bytea, bigint, integer) IS 'adds a value of a key to a state';
+COMMENT ON FUNCTION tuple_sketch_add_int8(internal, bigint, bigint) IS 'adds a value of a key to a state';
+COMMENT ON FUNCTION tuple_sketch_add_int8(internal, bigint, bigint, integer) IS 'adds a value of a key to a state';
+COMMENT ON FUNCTION tuple_sketch_add_sketch(internal, tuple_sketch) IS 'adds a sketch to a state';
+COMMENT ON FUNCTION tuple_sketch_add_sketch(internal, tuple_sketch, integer) IS 'adds a sketch to a state';
+COMMENT ON FUNCTION tuple_sketch_combine(internal, internal) IS 'merges two states';
+COMMENT ON FUNCTION tuple_sketch_serialize(internal) IS 'writes a state';
+COMMENT ON FUNCTION tuple_sketch_deserialize(bytea, internal) IS 'reads a state';
+COMMENT ON FUNCTION tuple_sketch_final(internal) IS 'the sketch of a state';
+COMMENT ON AGGREGATE tuple_sketch_build(text, bigint) IS 'the sketch of all keys and of the sums of their values';
+COMMENT ON AGGREGATE tuple_sketch_build(text, bigint, integer) IS 'the sketch of all keys and of the sums of their values, of 2^lg_k nominal entries';
+COMMENT ON AGGREGATE tuple_sketch_build(bytea, bigint) IS 'the sketch of all keys and of the sums of their values';
+COMMENT ON AGGREGATE tuple_sketch_build(bytea, bigint, integer) IS 'the sketch of all keys and of the sums of their values, of 2^lg_k nominal entries';
+COMMENT ON AGGREGATE tuple_sketch_build(bigint, bigint) IS 'the sketch of all keys and of the sums of their values';
+COMMENT ON AGGREGATE tuple_sketch_build(bigint, bigint, integer) IS 'the sketch of all keys and of the sums of their values, of 2^lg_k nominal entries';
+COMMENT ON AGGREGATE tuple_sketch_union(tuple_sketch) IS 'the union of all sketches, which adds up the sums of a key';
+COMMENT ON AGGREGATE tuple_sketch_union(tuple_sketch, integer) IS 'the union of all sketches, which adds up the sums of a key, of 2^lg_k nominal entries';
+COMMENT ON FUNCTION tuple_sketch_meet(internal, tuple_sketch) IS 'intersects a state with a sketch';
+COMMENT ON FUNCTION tuple_sketch_meet_combine(internal, internal) IS 'intersects two states';
+COMMENT ON FUNCTION tuple_sketch_meet_serialize(internal) IS 'writes a state';
+COMMENT ON FUNCTION tuple_sketch_meet_deserialize(bytea, internal) IS 'reads a state';
+COMMENT ON FUNCTION tuple_sketch_meet_final(internal) IS 'the sketch of a state';
+COMMENT ON AGGREGATE tuple_sketch_intersection(tuple_sketch) IS 'the intersection of all sketches, which adds up the sums of a key';
+COMMENT ON FUNCTION theta_sketch_eq(theta_sketch, theta_sketch) IS 'whether two sketches are equal';
+COMMENT ON FUNCTION theta_sketch_ne(theta_sketch, theta_sketch) IS 'whether two sketches differ';
+COMMENT ON FUNCTION theta_sketch_lt(theta_sketch, theta_sketch) IS 'compares images';
+COMMENT ON FUNCTION theta_sketch_le(theta_sketch, theta_sketch) IS 'compares images';
+COMMENT ON FUNCTION theta_sketch_gt(theta_sketch, theta_sketch) IS 'compares images';
+COMMENT ON FUNCTION theta_sketch_ge(theta_sketch, theta_sketch) IS 'compares images';
+COMMENT ON FUNCTION theta_sketch_cmp(theta_sketch, theta_sketch) IS 'compares images';
+COMMENT ON FUNCTION theta_sketch_hash(theta_sketch) IS 'hashes an image';
+COMMENT ON FUNCTION theta_sketch_hash_extended(theta_sketch, bigint) IS 'hashes an image';
+COMMENT ON FUNCTION tuple_sketch_eq(tuple_sketch, tuple_sketch) IS 'whether two sketches are equal';
+COMMENT ON FUNCTION tuple_sketch_ne(tuple_sketch, tuple_sketch) IS 'whether two sketches differ';
+COMMENT ON FUNCTION tuple_sketch_lt(tuple_sketch, tuple_sketch) IS 'compares images';
+COMMENT ON FUNCTION tuple_sketch_le(tuple_sketch, tuple_sketch) IS 'compares images';
+COMMENT ON FUNCTION tuple_sketch_gt(tuple_sketch, tuple_sketch) IS 'compares images';
+COMMENT ON FUNCTION tuple_sketch_ge(tuple_sketch, tuple_sketch) IS 'compares images';
+COMMENT ON FUNCTION tuple_sketch_cmp(tuple_sketch, tuple_sketch) IS 'compares images';
+COMMENT ON FUNCTION tuple_sketch_hash(tuple_sketch) IS 'hashes an image';
+COMMENT ON FUNCTION tuple_sketch_hash_extended(tuple_sketch, bigint) IS 'hashes an image';

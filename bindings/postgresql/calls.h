@@ -1,0 +1,57 @@
+/* What the functions of theta sketches and of tuple sketches share: errors, arguments, keys, and the states of aggregates as bytes. Each
+ * call takes the name of the type, with which its messages begin. */
+#ifndef THETA_SKETCH_CALLS_H
+#define THETA_SKETCH_CALLS_H
+#include "postgres.h"
+#include "fmgr.h"
+#if PG_VERSION_NUM >= 160000
+#include "varatt.h"
+#endif
+#include "heap.h"
+#include "groups.h"
+
+#define HIDDEN __attribute__((visibility("hidden")))
+
+/* Defines a function of SQL. */
+#define FUNCTION(name) \
+    PG_FUNCTION_INFO_V1(name); \
+    Datum name(PG_FUNCTION_ARGS)
+
+/* Raises an error unless a call of the library did what it promises. */
+HIDDEN void want(const char *type, kc_status status);
+/* Raises an error for bytes that are no image, with their flaw. */
+HIDDEN void want_image(const char *type, kc_status status, const char *flaw);
+/* Refuses a sketch that retains too many hashes for a value. */
+HIDDEN void check_size(const char *type, uint64_t retained);
+
+/* The argument lg_k at a place. If the call has no such argument, it is `missing`. */
+HIDDEN uint8_t lg_k_at(FunctionCallInfo fcinfo, const char *type, int place, uint8_t missing);
+/* The value of a tuple sketch at a place. */
+HIDDEN uint64_t value_at(FunctionCallInfo fcinfo, const char *type, int place);
+/* The deviations at the place 1; 2 without an argument. */
+HIDDEN uint32_t deviations_of(FunctionCallInfo fcinfo, const char *type);
+/* Bounds as an array, behind an estimate if there is one. */
+HIDDEN Datum bounds_array(const kc_state *state, uint32_t deviations, const char *type, bool has_estimate);
+/* The text of a value, and its bytes from a text, in base64. */
+HIDDEN char *base64_of(const bytea *image, const char *type);
+HIDDEN char *bytes_of_base64(const char *text, size_t *count, const char *type);
+
+/* Checks, once for a call in a query, that keys are equal only if their bytes are: of an aggregate, in which the key is the first
+ * argument, or of a function, in which it is the second. */
+HIDDEN void check_keys(FunctionCallInfo fcinfo, const char *type);
+
+/* The context of the aggregate that calls. */
+HIDDEN MemoryContext aggregate_context(FunctionCallInfo fcinfo, const char *type);
+/* The first argument as it is, for a row that is passed over. */
+HIDDEN Datum unchanged(FunctionCallInfo fcinfo);
+/* Sets lg_k of a group, which has to be the same in all of its rows and parts. */
+HIDDEN void set_lg_k(uint8_t *lg_k, uint8_t now, const char *type);
+
+/* A state as bytes: this head, and the images of both pieces, each of which may be missing. */
+typedef struct {
+    uint64 lengths[PIECES], lg_k, largest; /* the last two are those of a union */
+} StateHead;
+HIDDEN bytea *state_bytes(StateHead head, bytea *pieces[PIECES]);
+/* The head of such bytes; sets *images to those behind it. */
+HIDDEN StateHead state_head(bytea *bytes, const char **images, const char *type);
+#endif
