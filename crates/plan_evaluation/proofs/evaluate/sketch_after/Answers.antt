@@ -17,7 +17,7 @@ returns-in_err-apply-clause-refused g c =
     rw (p.1, p.2) (inr (for_other _ g.F.SketchFamily.strict
     (λ marks. (
       c.in_ok-sketch.ensures.refused,
-      refused_stepped f lawful c.args.lg_k c.args.start c.args.seed c.args.loop-step.now i c.step-item.result c.loop-step-test.true (g.F.SketchFamily.state c.loop-step.sketch).map.kept c.loop-step.invariant.kept (rw c.step-item.is at marks),
+      refused_stepped f lawful c.args.lg_k c.args.start c.args.seed c.args.steps.now i c.step-item.result c.loop-step-test.true (g.F.SketchFamily.state c.loop-step.sketch).map.kept c.loop-step.invariant.kept (rw c.step-item.is at marks),
     ))
     c.in_err-apply.ensures.refused))
 
@@ -33,8 +33,8 @@ loop-step-preserved g c =
     let d = c.step-item.result in
     record {
       own = c.in_ok-apply.ensures.still;
-      kept = kept_stepped f lawful c.args.lg_k c.args.start c.args.seed c.args.loop-step.now i d c.loop-step-test.true was.map now.map c.loop-step.invariant.kept c.loop-step.invariant.made (rw c.step-item.is at c.in_ok-apply.ensures.map);
+      kept = kept_stepped f lawful c.args.lg_k c.args.start c.args.seed c.args.steps.now i d c.loop-step-test.true was.map now.map c.loop-step.invariant.kept c.loop-step.invariant.made (rw c.step-item.is at c.in_ok-apply.ensures.map);
       made = made_stepped c.args.lg_k c.args.start c.args.seed was.map now.map c.loop-step.invariant.made c.in_ok-apply.ensures.made_with;
-      unrefused = unrefused_stepped f lawful c.args.lg_k c.args.start c.args.seed c.args.loop-step.now i d c.loop-step-test.true was.map.kept c.loop-step.invariant.kept c.loop-step.invariant.unrefused (rw c.step-item.is at c.in_ok-apply.ensures.unrefused);
-      empty = empty_stepped f lawful c.args.lg_k c.args.start c.args.seed c.args.loop-step.now i d c.loop-step-test.true was.empty now.empty c.loop-step.invariant.empty (rw c.step-item.is at c.in_ok-apply.ensures.empty);
+      unrefused = unrefused_stepped f lawful c.args.lg_k c.args.start c.args.seed c.args.steps.now i d c.loop-step-test.true was.map.kept c.loop-step.invariant.kept c.loop-step.invariant.unrefused (rw c.step-item.is at c.in_ok-apply.ensures.unrefused);
+      empty = empty_stepped f lawful c.args.lg_k c.args.start c.args.seed c.args.steps.now i d c.loop-step-test.true was.empty now.empty c.loop-step.invariant.empty (rw c.step-item.is at c.in_ok-apply.ensures.empty);
     }
