@@ -76,6 +76,51 @@ kc_status sums_add_number(sums_group *group, uint64_t number, uint64_t value) {
 #define EMPTY empty_sums
 #include "meet.inc"
 
+/* ---- A key for a sketch ---- */
+
+/* Whether a sketch may stay as it is: it is neither empty nor cut. */
+static int may_hold(const kc_state *state, uint8_t lg_k) { return !state->empty && state->retained <= (uint64_t)1 << lg_k; }
+
+kc_status union_holds(union_group *group, kc_compact *sketch, int *holds) {
+    kc_compact key = {0}, rest = {0};
+    kc_state state;
+    *holds = 0;
+    kc_status status = kc_compact_state(sketch, &state);
+    if (status != KC_OK || !may_hold(&state, group->lg_k)) return status;
+    status = kc_theta_compact(&group->rows, &key);
+    if (status == KC_OK) status = kc_difference(&key, sketch, KC_DEFAULT_SEED, &rest);
+    if (status == KC_OK) status = kc_compact_state(&rest, &state);
+    *holds = status == KC_OK && state.retained == 0;
+    kc_compact_free(&key);
+    kc_compact_free(&rest);
+    return status;
+}
+
+kc_status sums_holds(sums_group *group, kc_compact_sums *sketch, int *holds) {
+    kc_compact_sums key = {0}, rest = {0}, both = {0};
+    kc_sums_intersection meet = {0};
+    kc_state state, shared;
+    *holds = 0;
+    kc_status status = kc_compact_sums_state(sketch, &state);
+    if (status != KC_OK || !may_hold(&state, group->lg_k)) return status;
+    status = kc_sums_compact(&group->rows, &key);
+    if (status == KC_OK) status = kc_sums_difference(&key, sketch, KC_DEFAULT_SEED, &rest);
+    if (status == KC_OK) status = kc_compact_sums_state(&rest, &state);
+    if (status == KC_OK && state.retained == 0) {
+        status = kc_sums_intersection_new(&meet, KC_DEFAULT_SEED);
+        if (status == KC_OK) status = kc_sums_intersection_add_compact(&meet, &key);
+        if (status == KC_OK) status = kc_sums_intersection_add_compact(&meet, sketch);
+        if (status == KC_OK) status = kc_sums_intersection_result(&meet, &both);
+        if (status == KC_OK) status = kc_compact_sums_state(&both, &shared);
+        *holds = status == KC_OK && shared.retained == 0;
+    }
+    kc_compact_sums_free(&key);
+    kc_compact_sums_free(&rest);
+    kc_compact_sums_free(&both);
+    kc_sums_intersection_free(&meet);
+    return status;
+}
+
 /* ---- Images ---- */
 
 /* Families of sketches, and the bytes of an entry: a hash, and in a tuple sketch its sum. */

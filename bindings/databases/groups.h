@@ -41,6 +41,9 @@ kc_status union_result(union_group *group, kc_compact *out);
 int union_has_piece(const union_group *group, int place);
 kc_status union_piece(union_group *group, int place, kc_compact *out);
 kc_status union_add_piece(union_group *group, int place, kc_compact *sketch);
+/* Says whether a sketch is its own union with the keys of a group, which has no sketches: it retains all of them that are below its theta,
+ * and no more hashes than the group would. That is faster than the union. Refused with KC_OUT_OF_MEMORY. */
+kc_status union_holds(union_group *group, kc_compact *sketch, int *holds);
 void union_free(union_group *group);
 
 /* The intersection of sketches. Begin with {0}. */
@@ -79,6 +82,8 @@ kc_status sums_result(sums_group *group, kc_compact_sums *out);
 int sums_has_piece(const sums_group *group, int place);
 kc_status sums_piece(sums_group *group, int place, kc_compact_sums *out);
 kc_status sums_add_piece(sums_group *group, int place, kc_compact_sums *sketch);
+/* The same; but of a key that the sketch has the sum changes, so none may be below its theta. */
+kc_status sums_holds(sums_group *group, kc_compact_sums *sketch, int *holds);
 void sums_free(sums_group *group);
 
 /* The intersection of tuple sketches of sums, which adds up the sums of a key, and its calls, as those of meet_group. sums_meet_add and

@@ -50,20 +50,22 @@ FUNCTION(theta_sketch_add_int8) {
 
 FUNCTION(theta_sketch_insert_bytes) {
     union_group group = {.lg_k = 0};
+    kc_compact sketch = {0};
     check_keys(fcinfo, TYPE);
     if (PG_ARGISNULL(1)) return unchanged(fcinfo);
     bytea *key = PG_GETARG_BYTEA_PP(1);
-    begin_add(fcinfo, 2, &group);
+    begin_add(fcinfo, 2, &group, &sketch);
     want(TYPE, union_add_bytes(&group, VARDATA_ANY(key), VARSIZE_ANY_EXHDR(key)));
-    return end_add(&group);
+    return end_add(fcinfo, &group, &sketch);
 }
 
 FUNCTION(theta_sketch_insert_int8) {
     union_group group = {.lg_k = 0};
+    kc_compact sketch = {0};
     if (PG_ARGISNULL(1)) return unchanged(fcinfo);
-    begin_add(fcinfo, 2, &group);
+    begin_add(fcinfo, 2, &group, &sketch);
     want(TYPE, union_add_number(&group, (uint64_t)PG_GETARG_INT64(1)));
-    return end_add(&group);
+    return end_add(fcinfo, &group, &sketch);
 }
 
 FUNCTION(theta_sketch_final_estimate) {

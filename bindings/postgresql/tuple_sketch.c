@@ -63,20 +63,22 @@ FUNCTION(tuple_sketch_add_int8) {
 
 FUNCTION(tuple_sketch_insert_bytes) {
     sums_group group = {.lg_k = 0};
+    kc_compact_sums sketch = {0};
     check_keys(fcinfo, TYPE);
     if (PG_ARGISNULL(1) || PG_ARGISNULL(2)) return unchanged(fcinfo);
     bytea *key = PG_GETARG_BYTEA_PP(1);
     uint64_t value = value_at(fcinfo, TYPE, 2);
-    begin_add(fcinfo, 3, &group);
+    begin_add(fcinfo, 3, &group, &sketch);
     want(TYPE, sums_add_bytes(&group, VARDATA_ANY(key), VARSIZE_ANY_EXHDR(key), value));
-    return end_add(&group);
+    return end_add(fcinfo, &group, &sketch);
 }
 
 FUNCTION(tuple_sketch_insert_int8) {
     sums_group group = {.lg_k = 0};
+    kc_compact_sums sketch = {0};
     if (PG_ARGISNULL(1) || PG_ARGISNULL(2)) return unchanged(fcinfo);
     uint64_t value = value_at(fcinfo, TYPE, 2);
-    begin_add(fcinfo, 3, &group);
+    begin_add(fcinfo, 3, &group, &sketch);
     want(TYPE, sums_add_number(&group, (uint64_t)PG_GETARG_INT64(1), value));
-    return end_add(&group);
+    return end_add(fcinfo, &group, &sketch);
 }

@@ -35,8 +35,11 @@ static void build_step(context *call, int count, value **arguments) {
 
 static void add(context *call, int count, value **arguments) {
     union_group group = {.lg_k = 0};
+    kc_compact sketch = {0};
     if (is_null(arguments[1])) sqlite3_result_value(call, arguments[0]);
-    else if (begin_add(call, count, arguments, 2, &group) && add_key(call, &group, arguments[1])) end_add(call, &group);
+    else if (begin_add(call, count, arguments, 2, &group, &sketch) && add_key(call, &group, arguments[1]))
+        end_add(call, arguments[0], &group, &sketch);
+    kc_compact_free(&sketch);
     union_free(&group);
 }
 

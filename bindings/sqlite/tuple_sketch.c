@@ -35,8 +35,11 @@ void sums_build_step(context *call, int count, value **arguments) {
 
 void sums_add(context *call, int count, value **arguments) {
     sums_group group = {.lg_k = 0};
+    kc_compact_sums sketch = {0};
     if (is_null(arguments[1]) || is_null(arguments[2])) sqlite3_result_value(call, arguments[0]);
-    else if (begin_add(call, count, arguments, 3, &group) && add_value(call, &group, arguments[1], arguments[2])) end_add(call, &group);
+    else if (begin_add(call, count, arguments, 3, &group, &sketch) && add_value(call, &group, arguments[1], arguments[2]))
+        end_add(call, arguments[0], &group, &sketch);
+    kc_compact_sums_free(&sketch);
     sums_free(&group);
 }
 
