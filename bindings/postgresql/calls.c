@@ -4,10 +4,15 @@
 #include "catalog/pg_aggregate.h"
 #include "catalog/pg_type.h"
 #include "common/base64.h"
+#include "miscadmin.h"
 #include "nodes/execnodes.h"
 #include "nodes/nodeFuncs.h"
 #include "utils/array.h"
 #include "utils/builtins.h"
+#include "utils/date.h"
+#include "utils/datetime.h"
+#include "utils/fmgrprotos.h"
+#include "utils/fmgroids.h"
 #include "utils/lsyscache.h"
 #include "utils/syscache.h"
 #include "utils/typcache.h"
@@ -150,6 +155,48 @@ void check_keys(FunctionCallInfo fcinfo, const char *type) {
     } else if (fcinfo->flinfo->fn_expr != NULL && IsA(fcinfo->flinfo->fn_expr, FuncExpr))
         check_cast(lsecond(castNode(FuncExpr, fcinfo->flinfo->fn_expr)->args), type);
     fcinfo->flinfo->fn_extra = fcinfo->flinfo;
+}
+
+/* A time as ISO text; of a time with a zone it is that of UTC. */
+static const char *time_text(Timestamp at, bool has_zone, const char *type) {
+    char *text = palloc(MAXDATELEN + 1);
+    struct pg_tm parts;
+    fsec_t fraction;
+    if (TIMESTAMP_NOT_FINITE(at)) EncodeSpecialTimestamp(at, text);
+    else {
+        if (timestamp2tm(at, NULL, &parts, &fraction, NULL, NULL) != 0)
+            ereport(ERROR, errcode(ERRCODE_DATETIME_VALUE_OUT_OF_RANGE), errmsg("%s: the timestamp is out of range", type));
+        parts.tm_isdst = 0; /* below 0 the zone isn't written */
+        EncodeDateTime(&parts, fraction, has_zone, 0, NULL, USE_ISO_DATES, text);
+    }
+    return text;
+}
+
+static const char *date_text(DateADT date) {
+    char *text = palloc(MAXDATELEN + 1);
+    struct pg_tm parts = {0};
+    if (DATE_NOT_FINITE(date)) EncodeSpecialDate(date, text);
+    else {
+        j2date(date + POSTGRES_EPOCH_JDATE, &parts.tm_year, &parts.tm_mon, &parts.tm_mday);
+        EncodeDateOnly(&parts, USE_ISO_DATES, text);
+    }
+    return text;
+}
+
+const char *text_key(FunctionCallInfo fcinfo, const char *type) {
+    Datum key = PG_GETARG_DATUM(1);
+    Oid of = getBaseType(get_fn_expr_argtype(fcinfo->flinfo, 1));
+    switch (of) {
+    case BOOLOID: return DatumGetBool(key) ? "true" : "false";
+    case DATEOID: return date_text(DatumGetDateADT(key));
+    case TIMESTAMPOID: return time_text(DatumGetTimestamp(key), false, type);
+    case TIMESTAMPTZOID: return time_text(DatumGetTimestampTz(key), true, type);
+    case UUIDOID: return DatumGetCString(DirectFunctionCall1(uuid_out, key));
+    case INETOID:
+    case CIDROID: return TextDatumGetCString(DirectFunctionCall1(network_show, key));
+    }
+    if (!type_is_enum(of)) elog(ERROR, "%s: a key of type %s has no text here", type, format_type_be(of));
+    return DatumGetCString(OidFunctionCall1(F_ENUM_OUT, key));
 }
 
 /* ---- Aggregates ---- */

@@ -40,6 +40,9 @@ HIDDEN char *bytes_of_base64(const char *text, size_t *count, const char *type);
  * argument, or of a function, in which it is the second. */
 HIDDEN void check_keys(FunctionCallInfo fcinfo, const char *type);
 
+/* A key at the place 1 of a type that is hashed by its text, with a final 0 byte: that of x::text with DateStyle ISO and TimeZone UTC. */
+HIDDEN const char *text_key(FunctionCallInfo fcinfo, const char *type);
+
 /* The context of the aggregate that calls. */
 HIDDEN MemoryContext aggregate_context(FunctionCallInfo fcinfo, const char *type);
 /* The first argument as it is, for a row that is passed over. */

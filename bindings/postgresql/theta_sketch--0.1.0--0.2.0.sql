@@ -136,6 +136,199 @@ CREATE AGGREGATE tuple_sketch_intersection(tuple_sketch) (
     SFUNC = tuple_sketch_meet, STYPE = internal, FINALFUNC = tuple_sketch_meet_final, COMBINEFUNC = tuple_sketch_meet_combine,
     SERIALFUNC = tuple_sketch_meet_serialize, DESERIALFUNC = tuple_sketch_meet_deserialize, PARALLEL = SAFE);
 
+-- ---- Keys that are hashed by their text: that of x::text with DateStyle ISO and TimeZone UTC ----
+
+CREATE FUNCTION theta_sketch_add_text(internal, anyelement) RETURNS internal
+    AS 'MODULE_PATHNAME', 'theta_sketch_add_text' LANGUAGE C IMMUTABLE PARALLEL SAFE COST 10;
+CREATE FUNCTION theta_sketch_add_text(internal, anyelement, integer) RETURNS internal
+    AS 'MODULE_PATHNAME', 'theta_sketch_add_text' LANGUAGE C IMMUTABLE PARALLEL SAFE COST 10;
+CREATE FUNCTION tuple_sketch_add_text(internal, anyelement, bigint) RETURNS internal
+    AS 'MODULE_PATHNAME', 'tuple_sketch_add_text' LANGUAGE C IMMUTABLE PARALLEL SAFE COST 10;
+CREATE FUNCTION tuple_sketch_add_text(internal, anyelement, bigint, integer) RETURNS internal
+    AS 'MODULE_PATHNAME', 'tuple_sketch_add_text' LANGUAGE C IMMUTABLE PARALLEL SAFE COST 10;
+CREATE AGGREGATE theta_sketch_build(boolean) (
+    SFUNC = theta_sketch_add_text, STYPE = internal, FINALFUNC = theta_sketch_final, COMBINEFUNC = theta_sketch_combine,
+    SERIALFUNC = theta_sketch_serialize, DESERIALFUNC = theta_sketch_deserialize, PARALLEL = SAFE);
+CREATE AGGREGATE theta_sketch_distinct(boolean) (
+    SFUNC = theta_sketch_add_text, STYPE = internal, FINALFUNC = theta_sketch_final_estimate, COMBINEFUNC = theta_sketch_combine,
+    SERIALFUNC = theta_sketch_serialize, DESERIALFUNC = theta_sketch_deserialize, PARALLEL = SAFE);
+CREATE FUNCTION theta_sketch_add(theta_sketch, boolean) RETURNS theta_sketch
+    AS 'MODULE_PATHNAME', 'theta_sketch_insert_text' LANGUAGE C IMMUTABLE PARALLEL SAFE COST 1000;
+CREATE AGGREGATE theta_sketch_build(boolean, integer) (
+    SFUNC = theta_sketch_add_text, STYPE = internal, FINALFUNC = theta_sketch_final, COMBINEFUNC = theta_sketch_combine,
+    SERIALFUNC = theta_sketch_serialize, DESERIALFUNC = theta_sketch_deserialize, PARALLEL = SAFE);
+CREATE AGGREGATE theta_sketch_distinct(boolean, integer) (
+    SFUNC = theta_sketch_add_text, STYPE = internal, FINALFUNC = theta_sketch_final_estimate, COMBINEFUNC = theta_sketch_combine,
+    SERIALFUNC = theta_sketch_serialize, DESERIALFUNC = theta_sketch_deserialize, PARALLEL = SAFE);
+CREATE FUNCTION theta_sketch_add(theta_sketch, boolean, integer) RETURNS theta_sketch
+    AS 'MODULE_PATHNAME', 'theta_sketch_insert_text' LANGUAGE C IMMUTABLE PARALLEL SAFE COST 1000;
+CREATE AGGREGATE tuple_sketch_build(boolean, bigint) (
+    SFUNC = tuple_sketch_add_text, STYPE = internal, FINALFUNC = tuple_sketch_final, COMBINEFUNC = tuple_sketch_combine,
+    SERIALFUNC = tuple_sketch_serialize, DESERIALFUNC = tuple_sketch_deserialize, PARALLEL = SAFE);
+CREATE FUNCTION tuple_sketch_add(tuple_sketch, boolean, bigint) RETURNS tuple_sketch
+    AS 'MODULE_PATHNAME', 'tuple_sketch_insert_text' LANGUAGE C IMMUTABLE PARALLEL SAFE COST 1000;
+CREATE AGGREGATE tuple_sketch_build(boolean, bigint, integer) (
+    SFUNC = tuple_sketch_add_text, STYPE = internal, FINALFUNC = tuple_sketch_final, COMBINEFUNC = tuple_sketch_combine,
+    SERIALFUNC = tuple_sketch_serialize, DESERIALFUNC = tuple_sketch_deserialize, PARALLEL = SAFE);
+CREATE FUNCTION tuple_sketch_add(tuple_sketch, boolean, bigint, integer) RETURNS tuple_sketch
+    AS 'MODULE_PATHNAME', 'tuple_sketch_insert_text' LANGUAGE C IMMUTABLE PARALLEL SAFE COST 1000;
+CREATE AGGREGATE theta_sketch_build(date) (
+    SFUNC = theta_sketch_add_text, STYPE = internal, FINALFUNC = theta_sketch_final, COMBINEFUNC = theta_sketch_combine,
+    SERIALFUNC = theta_sketch_serialize, DESERIALFUNC = theta_sketch_deserialize, PARALLEL = SAFE);
+CREATE AGGREGATE theta_sketch_distinct(date) (
+    SFUNC = theta_sketch_add_text, STYPE = internal, FINALFUNC = theta_sketch_final_estimate, COMBINEFUNC = theta_sketch_combine,
+    SERIALFUNC = theta_sketch_serialize, DESERIALFUNC = theta_sketch_deserialize, PARALLEL = SAFE);
+CREATE FUNCTION theta_sketch_add(theta_sketch, date) RETURNS theta_sketch
+    AS 'MODULE_PATHNAME', 'theta_sketch_insert_text' LANGUAGE C IMMUTABLE PARALLEL SAFE COST 1000;
+CREATE AGGREGATE theta_sketch_build(date, integer) (
+    SFUNC = theta_sketch_add_text, STYPE = internal, FINALFUNC = theta_sketch_final, COMBINEFUNC = theta_sketch_combine,
+    SERIALFUNC = theta_sketch_serialize, DESERIALFUNC = theta_sketch_deserialize, PARALLEL = SAFE);
+CREATE AGGREGATE theta_sketch_distinct(date, integer) (
+    SFUNC = theta_sketch_add_text, STYPE = internal, FINALFUNC = theta_sketch_final_estimate, COMBINEFUNC = theta_sketch_combine,
+    SERIALFUNC = theta_sketch_serialize, DESERIALFUNC = theta_sketch_deserialize, PARALLEL = SAFE);
+CREATE FUNCTION theta_sketch_add(theta_sketch, date, integer) RETURNS theta_sketch
+    AS 'MODULE_PATHNAME', 'theta_sketch_insert_text' LANGUAGE C IMMUTABLE PARALLEL SAFE COST 1000;
+CREATE AGGREGATE tuple_sketch_build(date, bigint) (
+    SFUNC = tuple_sketch_add_text, STYPE = internal, FINALFUNC = tuple_sketch_final, COMBINEFUNC = tuple_sketch_combine,
+    SERIALFUNC = tuple_sketch_serialize, DESERIALFUNC = tuple_sketch_deserialize, PARALLEL = SAFE);
+CREATE FUNCTION tuple_sketch_add(tuple_sketch, date, bigint) RETURNS tuple_sketch
+    AS 'MODULE_PATHNAME', 'tuple_sketch_insert_text' LANGUAGE C IMMUTABLE PARALLEL SAFE COST 1000;
+CREATE AGGREGATE tuple_sketch_build(date, bigint, integer) (
+    SFUNC = tuple_sketch_add_text, STYPE = internal, FINALFUNC = tuple_sketch_final, COMBINEFUNC = tuple_sketch_combine,
+    SERIALFUNC = tuple_sketch_serialize, DESERIALFUNC = tuple_sketch_deserialize, PARALLEL = SAFE);
+CREATE FUNCTION tuple_sketch_add(tuple_sketch, date, bigint, integer) RETURNS tuple_sketch
+    AS 'MODULE_PATHNAME', 'tuple_sketch_insert_text' LANGUAGE C IMMUTABLE PARALLEL SAFE COST 1000;
+CREATE AGGREGATE theta_sketch_build(timestamp) (
+    SFUNC = theta_sketch_add_text, STYPE = internal, FINALFUNC = theta_sketch_final, COMBINEFUNC = theta_sketch_combine,
+    SERIALFUNC = theta_sketch_serialize, DESERIALFUNC = theta_sketch_deserialize, PARALLEL = SAFE);
+CREATE AGGREGATE theta_sketch_distinct(timestamp) (
+    SFUNC = theta_sketch_add_text, STYPE = internal, FINALFUNC = theta_sketch_final_estimate, COMBINEFUNC = theta_sketch_combine,
+    SERIALFUNC = theta_sketch_serialize, DESERIALFUNC = theta_sketch_deserialize, PARALLEL = SAFE);
+CREATE FUNCTION theta_sketch_add(theta_sketch, timestamp) RETURNS theta_sketch
+    AS 'MODULE_PATHNAME', 'theta_sketch_insert_text' LANGUAGE C IMMUTABLE PARALLEL SAFE COST 1000;
+CREATE AGGREGATE theta_sketch_build(timestamp, integer) (
+    SFUNC = theta_sketch_add_text, STYPE = internal, FINALFUNC = theta_sketch_final, COMBINEFUNC = theta_sketch_combine,
+    SERIALFUNC = theta_sketch_serialize, DESERIALFUNC = theta_sketch_deserialize, PARALLEL = SAFE);
+CREATE AGGREGATE theta_sketch_distinct(timestamp, integer) (
+    SFUNC = theta_sketch_add_text, STYPE = internal, FINALFUNC = theta_sketch_final_estimate, COMBINEFUNC = theta_sketch_combine,
+    SERIALFUNC = theta_sketch_serialize, DESERIALFUNC = theta_sketch_deserialize, PARALLEL = SAFE);
+CREATE FUNCTION theta_sketch_add(theta_sketch, timestamp, integer) RETURNS theta_sketch
+    AS 'MODULE_PATHNAME', 'theta_sketch_insert_text' LANGUAGE C IMMUTABLE PARALLEL SAFE COST 1000;
+CREATE AGGREGATE tuple_sketch_build(timestamp, bigint) (
+    SFUNC = tuple_sketch_add_text, STYPE = internal, FINALFUNC = tuple_sketch_final, COMBINEFUNC = tuple_sketch_combine,
+    SERIALFUNC = tuple_sketch_serialize, DESERIALFUNC = tuple_sketch_deserialize, PARALLEL = SAFE);
+CREATE FUNCTION tuple_sketch_add(tuple_sketch, timestamp, bigint) RETURNS tuple_sketch
+    AS 'MODULE_PATHNAME', 'tuple_sketch_insert_text' LANGUAGE C IMMUTABLE PARALLEL SAFE COST 1000;
+CREATE AGGREGATE tuple_sketch_build(timestamp, bigint, integer) (
+    SFUNC = tuple_sketch_add_text, STYPE = internal, FINALFUNC = tuple_sketch_final, COMBINEFUNC = tuple_sketch_combine,
+    SERIALFUNC = tuple_sketch_serialize, DESERIALFUNC = tuple_sketch_deserialize, PARALLEL = SAFE);
+CREATE FUNCTION tuple_sketch_add(tuple_sketch, timestamp, bigint, integer) RETURNS tuple_sketch
+    AS 'MODULE_PATHNAME', 'tuple_sketch_insert_text' LANGUAGE C IMMUTABLE PARALLEL SAFE COST 1000;
+CREATE AGGREGATE theta_sketch_build(timestamptz) (
+    SFUNC = theta_sketch_add_text, STYPE = internal, FINALFUNC = theta_sketch_final, COMBINEFUNC = theta_sketch_combine,
+    SERIALFUNC = theta_sketch_serialize, DESERIALFUNC = theta_sketch_deserialize, PARALLEL = SAFE);
+CREATE AGGREGATE theta_sketch_distinct(timestamptz) (
+    SFUNC = theta_sketch_add_text, STYPE = internal, FINALFUNC = theta_sketch_final_estimate, COMBINEFUNC = theta_sketch_combine,
+    SERIALFUNC = theta_sketch_serialize, DESERIALFUNC = theta_sketch_deserialize, PARALLEL = SAFE);
+CREATE FUNCTION theta_sketch_add(theta_sketch, timestamptz) RETURNS theta_sketch
+    AS 'MODULE_PATHNAME', 'theta_sketch_insert_text' LANGUAGE C IMMUTABLE PARALLEL SAFE COST 1000;
+CREATE AGGREGATE theta_sketch_build(timestamptz, integer) (
+    SFUNC = theta_sketch_add_text, STYPE = internal, FINALFUNC = theta_sketch_final, COMBINEFUNC = theta_sketch_combine,
+    SERIALFUNC = theta_sketch_serialize, DESERIALFUNC = theta_sketch_deserialize, PARALLEL = SAFE);
+CREATE AGGREGATE theta_sketch_distinct(timestamptz, integer) (
+    SFUNC = theta_sketch_add_text, STYPE = internal, FINALFUNC = theta_sketch_final_estimate, COMBINEFUNC = theta_sketch_combine,
+    SERIALFUNC = theta_sketch_serialize, DESERIALFUNC = theta_sketch_deserialize, PARALLEL = SAFE);
+CREATE FUNCTION theta_sketch_add(theta_sketch, timestamptz, integer) RETURNS theta_sketch
+    AS 'MODULE_PATHNAME', 'theta_sketch_insert_text' LANGUAGE C IMMUTABLE PARALLEL SAFE COST 1000;
+CREATE AGGREGATE tuple_sketch_build(timestamptz, bigint) (
+    SFUNC = tuple_sketch_add_text, STYPE = internal, FINALFUNC = tuple_sketch_final, COMBINEFUNC = tuple_sketch_combine,
+    SERIALFUNC = tuple_sketch_serialize, DESERIALFUNC = tuple_sketch_deserialize, PARALLEL = SAFE);
+CREATE FUNCTION tuple_sketch_add(tuple_sketch, timestamptz, bigint) RETURNS tuple_sketch
+    AS 'MODULE_PATHNAME', 'tuple_sketch_insert_text' LANGUAGE C IMMUTABLE PARALLEL SAFE COST 1000;
+CREATE AGGREGATE tuple_sketch_build(timestamptz, bigint, integer) (
+    SFUNC = tuple_sketch_add_text, STYPE = internal, FINALFUNC = tuple_sketch_final, COMBINEFUNC = tuple_sketch_combine,
+    SERIALFUNC = tuple_sketch_serialize, DESERIALFUNC = tuple_sketch_deserialize, PARALLEL = SAFE);
+CREATE FUNCTION tuple_sketch_add(tuple_sketch, timestamptz, bigint, integer) RETURNS tuple_sketch
+    AS 'MODULE_PATHNAME', 'tuple_sketch_insert_text' LANGUAGE C IMMUTABLE PARALLEL SAFE COST 1000;
+CREATE AGGREGATE theta_sketch_build(uuid) (
+    SFUNC = theta_sketch_add_text, STYPE = internal, FINALFUNC = theta_sketch_final, COMBINEFUNC = theta_sketch_combine,
+    SERIALFUNC = theta_sketch_serialize, DESERIALFUNC = theta_sketch_deserialize, PARALLEL = SAFE);
+CREATE AGGREGATE theta_sketch_distinct(uuid) (
+    SFUNC = theta_sketch_add_text, STYPE = internal, FINALFUNC = theta_sketch_final_estimate, COMBINEFUNC = theta_sketch_combine,
+    SERIALFUNC = theta_sketch_serialize, DESERIALFUNC = theta_sketch_deserialize, PARALLEL = SAFE);
+CREATE FUNCTION theta_sketch_add(theta_sketch, uuid) RETURNS theta_sketch
+    AS 'MODULE_PATHNAME', 'theta_sketch_insert_text' LANGUAGE C IMMUTABLE PARALLEL SAFE COST 1000;
+CREATE AGGREGATE theta_sketch_build(uuid, integer) (
+    SFUNC = theta_sketch_add_text, STYPE = internal, FINALFUNC = theta_sketch_final, COMBINEFUNC = theta_sketch_combine,
+    SERIALFUNC = theta_sketch_serialize, DESERIALFUNC = theta_sketch_deserialize, PARALLEL = SAFE);
+CREATE AGGREGATE theta_sketch_distinct(uuid, integer) (
+    SFUNC = theta_sketch_add_text, STYPE = internal, FINALFUNC = theta_sketch_final_estimate, COMBINEFUNC = theta_sketch_combine,
+    SERIALFUNC = theta_sketch_serialize, DESERIALFUNC = theta_sketch_deserialize, PARALLEL = SAFE);
+CREATE FUNCTION theta_sketch_add(theta_sketch, uuid, integer) RETURNS theta_sketch
+    AS 'MODULE_PATHNAME', 'theta_sketch_insert_text' LANGUAGE C IMMUTABLE PARALLEL SAFE COST 1000;
+CREATE AGGREGATE tuple_sketch_build(uuid, bigint) (
+    SFUNC = tuple_sketch_add_text, STYPE = internal, FINALFUNC = tuple_sketch_final, COMBINEFUNC = tuple_sketch_combine,
+    SERIALFUNC = tuple_sketch_serialize, DESERIALFUNC = tuple_sketch_deserialize, PARALLEL = SAFE);
+CREATE FUNCTION tuple_sketch_add(tuple_sketch, uuid, bigint) RETURNS tuple_sketch
+    AS 'MODULE_PATHNAME', 'tuple_sketch_insert_text' LANGUAGE C IMMUTABLE PARALLEL SAFE COST 1000;
+CREATE AGGREGATE tuple_sketch_build(uuid, bigint, integer) (
+    SFUNC = tuple_sketch_add_text, STYPE = internal, FINALFUNC = tuple_sketch_final, COMBINEFUNC = tuple_sketch_combine,
+    SERIALFUNC = tuple_sketch_serialize, DESERIALFUNC = tuple_sketch_deserialize, PARALLEL = SAFE);
+CREATE FUNCTION tuple_sketch_add(tuple_sketch, uuid, bigint, integer) RETURNS tuple_sketch
+    AS 'MODULE_PATHNAME', 'tuple_sketch_insert_text' LANGUAGE C IMMUTABLE PARALLEL SAFE COST 1000;
+CREATE AGGREGATE theta_sketch_build(inet) (
+    SFUNC = theta_sketch_add_text, STYPE = internal, FINALFUNC = theta_sketch_final, COMBINEFUNC = theta_sketch_combine,
+    SERIALFUNC = theta_sketch_serialize, DESERIALFUNC = theta_sketch_deserialize, PARALLEL = SAFE);
+CREATE AGGREGATE theta_sketch_distinct(inet) (
+    SFUNC = theta_sketch_add_text, STYPE = internal, FINALFUNC = theta_sketch_final_estimate, COMBINEFUNC = theta_sketch_combine,
+    SERIALFUNC = theta_sketch_serialize, DESERIALFUNC = theta_sketch_deserialize, PARALLEL = SAFE);
+CREATE FUNCTION theta_sketch_add(theta_sketch, inet) RETURNS theta_sketch
+    AS 'MODULE_PATHNAME', 'theta_sketch_insert_text' LANGUAGE C IMMUTABLE PARALLEL SAFE COST 1000;
+CREATE AGGREGATE theta_sketch_build(inet, integer) (
+    SFUNC = theta_sketch_add_text, STYPE = internal, FINALFUNC = theta_sketch_final, COMBINEFUNC = theta_sketch_combine,
+    SERIALFUNC = theta_sketch_serialize, DESERIALFUNC = theta_sketch_deserialize, PARALLEL = SAFE);
+CREATE AGGREGATE theta_sketch_distinct(inet, integer) (
+    SFUNC = theta_sketch_add_text, STYPE = internal, FINALFUNC = theta_sketch_final_estimate, COMBINEFUNC = theta_sketch_combine,
+    SERIALFUNC = theta_sketch_serialize, DESERIALFUNC = theta_sketch_deserialize, PARALLEL = SAFE);
+CREATE FUNCTION theta_sketch_add(theta_sketch, inet, integer) RETURNS theta_sketch
+    AS 'MODULE_PATHNAME', 'theta_sketch_insert_text' LANGUAGE C IMMUTABLE PARALLEL SAFE COST 1000;
+CREATE AGGREGATE tuple_sketch_build(inet, bigint) (
+    SFUNC = tuple_sketch_add_text, STYPE = internal, FINALFUNC = tuple_sketch_final, COMBINEFUNC = tuple_sketch_combine,
+    SERIALFUNC = tuple_sketch_serialize, DESERIALFUNC = tuple_sketch_deserialize, PARALLEL = SAFE);
+CREATE FUNCTION tuple_sketch_add(tuple_sketch, inet, bigint) RETURNS tuple_sketch
+    AS 'MODULE_PATHNAME', 'tuple_sketch_insert_text' LANGUAGE C IMMUTABLE PARALLEL SAFE COST 1000;
+CREATE AGGREGATE tuple_sketch_build(inet, bigint, integer) (
+    SFUNC = tuple_sketch_add_text, STYPE = internal, FINALFUNC = tuple_sketch_final, COMBINEFUNC = tuple_sketch_combine,
+    SERIALFUNC = tuple_sketch_serialize, DESERIALFUNC = tuple_sketch_deserialize, PARALLEL = SAFE);
+CREATE FUNCTION tuple_sketch_add(tuple_sketch, inet, bigint, integer) RETURNS tuple_sketch
+    AS 'MODULE_PATHNAME', 'tuple_sketch_insert_text' LANGUAGE C IMMUTABLE PARALLEL SAFE COST 1000;
+CREATE AGGREGATE theta_sketch_build(anyenum) (
+    SFUNC = theta_sketch_add_text, STYPE = internal, FINALFUNC = theta_sketch_final, COMBINEFUNC = theta_sketch_combine,
+    SERIALFUNC = theta_sketch_serialize, DESERIALFUNC = theta_sketch_deserialize, PARALLEL = SAFE);
+CREATE AGGREGATE theta_sketch_distinct(anyenum) (
+    SFUNC = theta_sketch_add_text, STYPE = internal, FINALFUNC = theta_sketch_final_estimate, COMBINEFUNC = theta_sketch_combine,
+    SERIALFUNC = theta_sketch_serialize, DESERIALFUNC = theta_sketch_deserialize, PARALLEL = SAFE);
+CREATE FUNCTION theta_sketch_add(theta_sketch, anyenum) RETURNS theta_sketch
+    AS 'MODULE_PATHNAME', 'theta_sketch_insert_text' LANGUAGE C IMMUTABLE PARALLEL SAFE COST 1000;
+CREATE AGGREGATE theta_sketch_build(anyenum, integer) (
+    SFUNC = theta_sketch_add_text, STYPE = internal, FINALFUNC = theta_sketch_final, COMBINEFUNC = theta_sketch_combine,
+    SERIALFUNC = theta_sketch_serialize, DESERIALFUNC = theta_sketch_deserialize, PARALLEL = SAFE);
+CREATE AGGREGATE theta_sketch_distinct(anyenum, integer) (
+    SFUNC = theta_sketch_add_text, STYPE = internal, FINALFUNC = theta_sketch_final_estimate, COMBINEFUNC = theta_sketch_combine,
+    SERIALFUNC = theta_sketch_serialize, DESERIALFUNC = theta_sketch_deserialize, PARALLEL = SAFE);
+CREATE FUNCTION theta_sketch_add(theta_sketch, anyenum, integer) RETURNS theta_sketch
+    AS 'MODULE_PATHNAME', 'theta_sketch_insert_text' LANGUAGE C IMMUTABLE PARALLEL SAFE COST 1000;
+CREATE AGGREGATE tuple_sketch_build(anyenum, bigint) (
+    SFUNC = tuple_sketch_add_text, STYPE = internal, FINALFUNC = tuple_sketch_final, COMBINEFUNC = tuple_sketch_combine,
+    SERIALFUNC = tuple_sketch_serialize, DESERIALFUNC = tuple_sketch_deserialize, PARALLEL = SAFE);
+CREATE FUNCTION tuple_sketch_add(tuple_sketch, anyenum, bigint) RETURNS tuple_sketch
+    AS 'MODULE_PATHNAME', 'tuple_sketch_insert_text' LANGUAGE C IMMUTABLE PARALLEL SAFE COST 1000;
+CREATE AGGREGATE tuple_sketch_build(anyenum, bigint, integer) (
+    SFUNC = tuple_sketch_add_text, STYPE = internal, FINALFUNC = tuple_sketch_final, COMBINEFUNC = tuple_sketch_combine,
+    SERIALFUNC = tuple_sketch_serialize, DESERIALFUNC = tuple_sketch_deserialize, PARALLEL = SAFE);
+CREATE FUNCTION tuple_sketch_add(tuple_sketch, anyenum, bigint, integer) RETURNS tuple_sketch
+    AS 'MODULE_PATHNAME', 'tuple_sketch_insert_text' LANGUAGE C IMMUTABLE PARALLEL SAFE COST 1000;
+
 -- ---- Comparisons: equal sketches have equal images, so these are PostgreSQL's own functions of bytes ----
 
 CREATE FUNCTION theta_sketch_eq(theta_sketch, theta_sketch) RETURNS boolean AS 'byteaeq' LANGUAGE internal IMMUTABLE STRICT LEAKPROOF PARALLEL SAFE;
@@ -343,3 +536,77 @@ COMMENT ON FUNCTION tuple_sketch_ge(tuple_sketch, tuple_sketch) IS 'compares ima
 COMMENT ON FUNCTION tuple_sketch_cmp(tuple_sketch, tuple_sketch) IS 'compares images';
 COMMENT ON FUNCTION tuple_sketch_hash(tuple_sketch) IS 'hashes an image';
 COMMENT ON FUNCTION tuple_sketch_hash_extended(tuple_sketch, bigint) IS 'hashes an image';
+COMMENT ON FUNCTION theta_sketch_add_text(internal, anyelement) IS 'adds a key to a state';
+COMMENT ON FUNCTION theta_sketch_add_text(internal, anyelement, integer) IS 'adds a key to a state';
+COMMENT ON FUNCTION tuple_sketch_add_text(internal, anyelement, bigint) IS 'adds a value of a key to a state';
+COMMENT ON FUNCTION tuple_sketch_add_text(internal, anyelement, bigint, integer) IS 'adds a value of a key to a state';
+COMMENT ON AGGREGATE theta_sketch_build(boolean) IS 'the sketch of all keys';
+COMMENT ON AGGREGATE theta_sketch_distinct(boolean) IS 'estimates how many keys differ';
+COMMENT ON FUNCTION theta_sketch_add(theta_sketch, boolean) IS 'the sketch with one more key';
+COMMENT ON AGGREGATE theta_sketch_build(boolean, integer) IS 'the sketch of all keys, of 2^lg_k nominal entries';
+COMMENT ON AGGREGATE theta_sketch_distinct(boolean, integer) IS 'estimates how many keys differ, of 2^lg_k nominal entries';
+COMMENT ON FUNCTION theta_sketch_add(theta_sketch, boolean, integer) IS 'the sketch with one more key, of 2^lg_k nominal entries';
+COMMENT ON AGGREGATE tuple_sketch_build(boolean, bigint) IS 'the sketch of all keys and of the sums of their values';
+COMMENT ON FUNCTION tuple_sketch_add(tuple_sketch, boolean, bigint) IS 'the sketch with a value added to the sum of a key';
+COMMENT ON AGGREGATE tuple_sketch_build(boolean, bigint, integer) IS 'the sketch of all keys and of the sums of their values, of 2^lg_k nominal entries';
+COMMENT ON FUNCTION tuple_sketch_add(tuple_sketch, boolean, bigint, integer) IS 'the sketch with a value added to the sum of a key, of 2^lg_k nominal entries';
+COMMENT ON AGGREGATE theta_sketch_build(date) IS 'the sketch of all keys';
+COMMENT ON AGGREGATE theta_sketch_distinct(date) IS 'estimates how many keys differ';
+COMMENT ON FUNCTION theta_sketch_add(theta_sketch, date) IS 'the sketch with one more key';
+COMMENT ON AGGREGATE theta_sketch_build(date, integer) IS 'the sketch of all keys, of 2^lg_k nominal entries';
+COMMENT ON AGGREGATE theta_sketch_distinct(date, integer) IS 'estimates how many keys differ, of 2^lg_k nominal entries';
+COMMENT ON FUNCTION theta_sketch_add(theta_sketch, date, integer) IS 'the sketch with one more key, of 2^lg_k nominal entries';
+COMMENT ON AGGREGATE tuple_sketch_build(date, bigint) IS 'the sketch of all keys and of the sums of their values';
+COMMENT ON FUNCTION tuple_sketch_add(tuple_sketch, date, bigint) IS 'the sketch with a value added to the sum of a key';
+COMMENT ON AGGREGATE tuple_sketch_build(date, bigint, integer) IS 'the sketch of all keys and of the sums of their values, of 2^lg_k nominal entries';
+COMMENT ON FUNCTION tuple_sketch_add(tuple_sketch, date, bigint, integer) IS 'the sketch with a value added to the sum of a key, of 2^lg_k nominal entries';
+COMMENT ON AGGREGATE theta_sketch_build(timestamp) IS 'the sketch of all keys';
+COMMENT ON AGGREGATE theta_sketch_distinct(timestamp) IS 'estimates how many keys differ';
+COMMENT ON FUNCTION theta_sketch_add(theta_sketch, timestamp) IS 'the sketch with one more key';
+COMMENT ON AGGREGATE theta_sketch_build(timestamp, integer) IS 'the sketch of all keys, of 2^lg_k nominal entries';
+COMMENT ON AGGREGATE theta_sketch_distinct(timestamp, integer) IS 'estimates how many keys differ, of 2^lg_k nominal entries';
+COMMENT ON FUNCTION theta_sketch_add(theta_sketch, timestamp, integer) IS 'the sketch with one more key, of 2^lg_k nominal entries';
+COMMENT ON AGGREGATE tuple_sketch_build(timestamp, bigint) IS 'the sketch of all keys and of the sums of their values';
+COMMENT ON FUNCTION tuple_sketch_add(tuple_sketch, timestamp, bigint) IS 'the sketch with a value added to the sum of a key';
+COMMENT ON AGGREGATE tuple_sketch_build(timestamp, bigint, integer) IS 'the sketch of all keys and of the sums of their values, of 2^lg_k nominal entries';
+COMMENT ON FUNCTION tuple_sketch_add(tuple_sketch, timestamp, bigint, integer) IS 'the sketch with a value added to the sum of a key, of 2^lg_k nominal entries';
+COMMENT ON AGGREGATE theta_sketch_build(timestamptz) IS 'the sketch of all keys';
+COMMENT ON AGGREGATE theta_sketch_distinct(timestamptz) IS 'estimates how many keys differ';
+COMMENT ON FUNCTION theta_sketch_add(theta_sketch, timestamptz) IS 'the sketch with one more key';
+COMMENT ON AGGREGATE theta_sketch_build(timestamptz, integer) IS 'the sketch of all keys, of 2^lg_k nominal entries';
+COMMENT ON AGGREGATE theta_sketch_distinct(timestamptz, integer) IS 'estimates how many keys differ, of 2^lg_k nominal entries';
+COMMENT ON FUNCTION theta_sketch_add(theta_sketch, timestamptz, integer) IS 'the sketch with one more key, of 2^lg_k nominal entries';
+COMMENT ON AGGREGATE tuple_sketch_build(timestamptz, bigint) IS 'the sketch of all keys and of the sums of their values';
+COMMENT ON FUNCTION tuple_sketch_add(tuple_sketch, timestamptz, bigint) IS 'the sketch with a value added to the sum of a key';
+COMMENT ON AGGREGATE tuple_sketch_build(timestamptz, bigint, integer) IS 'the sketch of all keys and of the sums of their values, of 2^lg_k nominal entries';
+COMMENT ON FUNCTION tuple_sketch_add(tuple_sketch, timestamptz, bigint, integer) IS 'the sketch with a value added to the sum of a key, of 2^lg_k nominal entries';
+COMMENT ON AGGREGATE theta_sketch_build(uuid) IS 'the sketch of all keys';
+COMMENT ON AGGREGATE theta_sketch_distinct(uuid) IS 'estimates how many keys differ';
+COMMENT ON FUNCTION theta_sketch_add(theta_sketch, uuid) IS 'the sketch with one more key';
+COMMENT ON AGGREGATE theta_sketch_build(uuid, integer) IS 'the sketch of all keys, of 2^lg_k nominal entries';
+COMMENT ON AGGREGATE theta_sketch_distinct(uuid, integer) IS 'estimates how many keys differ, of 2^lg_k nominal entries';
+COMMENT ON FUNCTION theta_sketch_add(theta_sketch, uuid, integer) IS 'the sketch with one more key, of 2^lg_k nominal entries';
+COMMENT ON AGGREGATE tuple_sketch_build(uuid, bigint) IS 'the sketch of all keys and of the sums of their values';
+COMMENT ON FUNCTION tuple_sketch_add(tuple_sketch, uuid, bigint) IS 'the sketch with a value added to the sum of a key';
+COMMENT ON AGGREGATE tuple_sketch_build(uuid, bigint, integer) IS 'the sketch of all keys and of the sums of their values, of 2^lg_k nominal entries';
+COMMENT ON FUNCTION tuple_sketch_add(tuple_sketch, uuid, bigint, integer) IS 'the sketch with a value added to the sum of a key, of 2^lg_k nominal entries';
+COMMENT ON AGGREGATE theta_sketch_build(inet) IS 'the sketch of all keys';
+COMMENT ON AGGREGATE theta_sketch_distinct(inet) IS 'estimates how many keys differ';
+COMMENT ON FUNCTION theta_sketch_add(theta_sketch, inet) IS 'the sketch with one more key';
+COMMENT ON AGGREGATE theta_sketch_build(inet, integer) IS 'the sketch of all keys, of 2^lg_k nominal entries';
+COMMENT ON AGGREGATE theta_sketch_distinct(inet, integer) IS 'estimates how many keys differ, of 2^lg_k nominal entries';
+COMMENT ON FUNCTION theta_sketch_add(theta_sketch, inet, integer) IS 'the sketch with one more key, of 2^lg_k nominal entries';
+COMMENT ON AGGREGATE tuple_sketch_build(inet, bigint) IS 'the sketch of all keys and of the sums of their values';
+COMMENT ON FUNCTION tuple_sketch_add(tuple_sketch, inet, bigint) IS 'the sketch with a value added to the sum of a key';
+COMMENT ON AGGREGATE tuple_sketch_build(inet, bigint, integer) IS 'the sketch of all keys and of the sums of their values, of 2^lg_k nominal entries';
+COMMENT ON FUNCTION tuple_sketch_add(tuple_sketch, inet, bigint, integer) IS 'the sketch with a value added to the sum of a key, of 2^lg_k nominal entries';
+COMMENT ON AGGREGATE theta_sketch_build(anyenum) IS 'the sketch of all keys';
+COMMENT ON AGGREGATE theta_sketch_distinct(anyenum) IS 'estimates how many keys differ';
+COMMENT ON FUNCTION theta_sketch_add(theta_sketch, anyenum) IS 'the sketch with one more key';
+COMMENT ON AGGREGATE theta_sketch_build(anyenum, integer) IS 'the sketch of all keys, of 2^lg_k nominal entries';
+COMMENT ON AGGREGATE theta_sketch_distinct(anyenum, integer) IS 'estimates how many keys differ, of 2^lg_k nominal entries';
+COMMENT ON FUNCTION theta_sketch_add(theta_sketch, anyenum, integer) IS 'the sketch with one more key, of 2^lg_k nominal entries';
+COMMENT ON AGGREGATE tuple_sketch_build(anyenum, bigint) IS 'the sketch of all keys and of the sums of their values';
+COMMENT ON FUNCTION tuple_sketch_add(tuple_sketch, anyenum, bigint) IS 'the sketch with a value added to the sum of a key';
+COMMENT ON AGGREGATE tuple_sketch_build(anyenum, bigint, integer) IS 'the sketch of all keys and of the sums of their values, of 2^lg_k nominal entries';
+COMMENT ON FUNCTION tuple_sketch_add(tuple_sketch, anyenum, bigint, integer) IS 'the sketch with a value added to the sum of a key, of 2^lg_k nominal entries';

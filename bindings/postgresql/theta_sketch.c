@@ -48,6 +48,24 @@ FUNCTION(theta_sketch_add_int8) {
     PG_RETURN_POINTER(state);
 }
 
+FUNCTION(theta_sketch_add_text) {
+    if (PG_ARGISNULL(1)) return unchanged(fcinfo);
+    UnionState *state = state_for_row(fcinfo, 2, DEFAULT_LG_K);
+    const char *key = text_key(fcinfo, TYPE);
+    want(TYPE, union_add_bytes(&state->group, key, strlen(key)));
+    PG_RETURN_POINTER(state);
+}
+
+FUNCTION(theta_sketch_insert_text) {
+    union_group group = {.lg_k = 0};
+    kc_compact sketch = {0};
+    if (PG_ARGISNULL(1)) return unchanged(fcinfo);
+    const char *key = text_key(fcinfo, TYPE);
+    begin_add(fcinfo, 2, &group, &sketch);
+    want(TYPE, union_add_bytes(&group, key, strlen(key)));
+    return end_add(fcinfo, &group, &sketch);
+}
+
 FUNCTION(theta_sketch_insert_bytes) {
     union_group group = {.lg_k = 0};
     kc_compact sketch = {0};

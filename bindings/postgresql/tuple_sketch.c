@@ -61,6 +61,25 @@ FUNCTION(tuple_sketch_add_int8) {
     PG_RETURN_POINTER(state);
 }
 
+FUNCTION(tuple_sketch_add_text) {
+    if (PG_ARGISNULL(1) || PG_ARGISNULL(2)) return unchanged(fcinfo);
+    UnionState *state = state_for_row(fcinfo, 3, DEFAULT_LG_K);
+    const char *key = text_key(fcinfo, TYPE);
+    want(TYPE, sums_add_bytes(&state->group, key, strlen(key), value_at(fcinfo, TYPE, 2)));
+    PG_RETURN_POINTER(state);
+}
+
+FUNCTION(tuple_sketch_insert_text) {
+    sums_group group = {.lg_k = 0};
+    kc_compact_sums sketch = {0};
+    if (PG_ARGISNULL(1) || PG_ARGISNULL(2)) return unchanged(fcinfo);
+    const char *key = text_key(fcinfo, TYPE);
+    uint64_t value = value_at(fcinfo, TYPE, 2);
+    begin_add(fcinfo, 3, &group, &sketch);
+    want(TYPE, sums_add_bytes(&group, key, strlen(key), value));
+    return end_add(fcinfo, &group, &sketch);
+}
+
 FUNCTION(tuple_sketch_insert_bytes) {
     sums_group group = {.lg_k = 0};
     kc_compact_sums sketch = {0};
