@@ -16,10 +16,6 @@ twice : (b : Bool) → not (not b) ≡ b
 twice true = refl
 twice false = refl
 
--- its settings don't change
-pub made_stepped : {X : Type 0} (lg_k start seed : ℕ) (old new : MapTable X) → old ≡ record (empty_table lg_k start seed) { kept = old.kept } → new ≡ record old { kept = new.kept } → new ≡ record (empty_table lg_k start seed) { kept = new.kept }
-made_stepped {X} lg_k start seed old new made after = (let again : MapTable X → MapTable X = λ t. record t { kept = new.kept } in after ∙ ap again made)
-
 module _ {X V : Type 0} (f : Family (Fold X) V) (lawful : IsFamily f) (lg_k start seed : ℕ) (steps : List (Step V)) where
   module _ (i : ℕ) (d : Step V) (lt : i < length steps) where
     more : take (i + 1) steps ≡ take i steps ++ get_or steps i d ∷ []

@@ -1,23 +1,13 @@
 -- Facts on the answers of calls.
 use Rattle.std.proofs.Common.{◌≡◌, Result, Ok, Err, inl, inr, sym, subst}
-use Rattle.std.specs.Prelude.{Bool, OnOk, IfErr, IsErrAnd}
+use Rattle.std.specs.Prelude.{Bool, IfErr, IsErrAnd}
 use Rattle.sketch_base.specs.declared.error.ErrorKind.{ErrorKind}
 use Rattle.plan_evaluation.specs.Refused.{RefusedFor}
-
--- two facts on an answer make a third
-pub on_both : {T P Q R : Type 0} (r : Result T ErrorKind) → OnOk r P → OnOk r Q → (P → Q → R) → OnOk r R
-on_both (Ok x) p q both = both p q
-on_both (Err e) p q both = tt
 
 -- what the exit of a `?` returns, of whose error P holds
 pub returned : {T : Type 0} {e : ErrorKind} (P : ErrorKind → Type 0) (r : Result T ErrorKind) → IsErrAnd r (λ y. y ≡ e) → P e → IfErr r P
 returned P (Ok x) is p = tt
 returned P (Err y) is p = subst P (sym is) p
-
--- a fact on a refusal implies another
-pub if_refused : {T : Type 0} {P Q : ErrorKind → Type 0} (r : Result T ErrorKind) → IfErr r P → ((e : ErrorKind) → P e → Q e) → IfErr r Q
-if_refused (Ok x) p more = tt
-if_refused (Err e) p more = more e p
 
 -- the reason of a refusal implies another
 pub for_other : {P Q : Type 0} (e : ErrorKind) (strict : Bool) → (P → Q) → RefusedFor e strict P → RefusedFor e strict Q

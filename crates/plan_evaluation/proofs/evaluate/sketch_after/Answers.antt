@@ -2,7 +2,8 @@ use Rattle.std.proofs.Common.{inr}
 use Rattle.std.proofs.lemmas.Result.{err_from_is_err_and}
 use Rattle.plan_values.specs.Family.{folds_of}
 use Rattle.plan_values.proofs.KnownFamilies.{folds_keep}
-use Rattle.plan_evaluation.proofs.evaluation.LeafSteps.{made_stepped, kept_stepped, unrefused_stepped, empty_stepped, refused_stepped}
+use Rattle.core_streams.proofs.WholeMaps.{made_again}
+use Rattle.plan_evaluation.proofs.evaluation.LeafSteps.{kept_stepped, unrefused_stepped, empty_stepped, refused_stepped}
 use Rattle.plan_evaluation.proofs.evaluation.Results.{for_other}
 use Rattle.plan_evaluation.proofs.evaluate.sketch_after.Goals as goal
 
@@ -34,7 +35,7 @@ loop-step-preserved g c =
     record {
       own = c.in_ok-apply.ensures.still;
       kept = kept_stepped f lawful c.args.lg_k c.args.start c.args.seed c.args.steps.now i d c.loop-step-test.true was.map now.map c.loop-step.invariant.kept c.loop-step.invariant.made (rw c.step-item.is at c.in_ok-apply.ensures.map);
-      made = made_stepped c.args.lg_k c.args.start c.args.seed was.map now.map c.loop-step.invariant.made c.in_ok-apply.ensures.made_with;
+      made = made_again c.args.lg_k c.args.start c.args.seed was.map now.map c.loop-step.invariant.made c.in_ok-apply.ensures.made_with;
       unrefused = unrefused_stepped f lawful c.args.lg_k c.args.start c.args.seed c.args.steps.now i d c.loop-step-test.true was.map.kept c.loop-step.invariant.kept c.loop-step.invariant.unrefused (rw c.step-item.is at c.in_ok-apply.ensures.unrefused);
       empty = empty_stepped f lawful c.args.lg_k c.args.start c.args.seed c.args.steps.now i d c.loop-step-test.true was.empty now.empty c.loop-step.invariant.empty (rw c.step-item.is at c.in_ok-apply.ensures.empty);
     }
