@@ -10,7 +10,7 @@ use Rattle.core_laws.specs.Settings.{settings_refusal}
 use Rattle.core_laws.specs.declared.TheConstants.{MAX_THETA}
 use Rattle.std.proofs.lemmas.Bool.Decides.{nat_tests}
 use Rattle.core_compact.specs.CompactState.{Compact, compact_value, IsAnswer, ordered_sketch}
-use Rattle.core_compact.proofs.Answered.{answer-value, answer-seed}
+use Rattle.core_compact.proofs.Answered.{answer-value}
 use Rattle.core_laws.specs.Values.{Sketch, Empty, NonEmpty}
 use Rattle.expression_text.specs.declared.operator.Operator.{Operator}
 use Rattle.expression_text.specs.declared.operator.Step.{Step}
@@ -72,9 +72,6 @@ module _ {X : Type 0} (key : X → ℕ) where
   -- an answer is that of its own value
   pub answer_own : (v : Sketch X) (h : ℕ) (s : Compact X) → IsAnswer key v h true s → IsAnswer key (compact_value key s) h true s
   answer_own v h s answer = subst (λ u. IsAnswer key u h true s) (sym (answer-value key v h true s answer)) answer
-
-  pub answer_seed : (v : Sketch X) (h : ℕ) (s : Compact X) → IsAnswer key v h true s → s.seed_hash ≡ h
-  answer_seed v h s answer = answer-seed key v h true s answer
 
 module _ {S X : Type 0} (rules : Rules X) (read : S → Compact X) where
   abbrev value : S → Sketch X

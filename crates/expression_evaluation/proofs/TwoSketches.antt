@@ -8,7 +8,7 @@ use Rattle.sketch_base.specs.declared.error.ErrorKind.TheVariants.{OutOfMemory, 
 use Rattle.core_compact.specs.CompactState.{Compact, shown_of, IsAnswer, compact_value}
 use Rattle.core_laws.specs.Maps.{map_of}
 use Rattle.core_laws.specs.Entries.{KeepsKey, hash_key}
-use Rattle.core_laws.specs.Operators.{unite, unite_nonempty, meet, meet_next, minus}
+use Rattle.core_laws.specs.Operators.{unite, unite_nonempty, meet_next, minus}
 use Rattle.core_laws.specs.Refusal.{Refuses}
 use Rattle.core_laws.specs.Settings.{settings_refusal}
 use Rattle.core_laws.specs.Shown.{Shown, shown_value}
@@ -18,6 +18,7 @@ use Rattle.core_laws.proofs.operators.Unions.{nonempties-more, union_of_union}
 use Rattle.core_operators.specs.Intersection.{Intersection, is_settled, intersect_refusal, seed_refusal, IsAnswerIfAny}
 use Rattle.core_operators.specs.Union.{Union, union_value, empty_union, update_refusal}
 use Rattle.core_operators.proofs.DifferencesByKeys.{minus_of_keys}
+use Rattle.core_streams.proofs.WholeMaps.{meet-one}
 use Rattle.expression_evaluation.specs.Running.{is_accepted, IsEvaluationError, IsMergeError}
 
 -- ---- refusals
@@ -120,13 +121,9 @@ module _ {X : Type 0} (key : X → ℕ) where
       ap (λ (s : Shown). minus key hash_key a (shown_value hash_key s s.hashes)) is_b ∙ minus_of_keys key second.empty second.theta a second.entries ∙ ap (λ u. minus key key u (compact_value key second)) is_a
 
 module _ {X : Type 0} (key : X → ℕ) (merges : X → X → X) where
-  pub one_met : (v : Sketch X) → meet key merges (v ∷ []) ≡ v
-  one_met Empty = refl
-  one_met (NonEmpty v) = refl
-
   -- the result of an intersection with one sketch
   pub met_one : (o now : Option (Sketch X)) (v w : Sketch X) → o ≡ None → now ≡ Some (meet_next key merges o v) → v ≡ w → now ≡ Some w
-  met_one o now v w none met same = met ∙ ap (λ (p : Option (Sketch X)). Some (meet_next key merges p v)) none ∙ ap (λ (u : Sketch X). Some u) (one_met v ∙ same)
+  met_one o now v w none met same = met ∙ ap (λ (p : Option (Sketch X)). Some (meet_next key merges p v)) none ∙ ap (λ (u : Sketch X). Some u) (meet-one key merges v ∙ same)
 
 -- ---- unions
 
