@@ -15,7 +15,7 @@ use Rattle.core_laws.specs.declared.TheConstants.{MAX_THETA}
 use Rattle.keys_lines.specs.Lines.{lines_of}
 use Rattle.keys_sketches.specs.Keys.{key_set}
 use Rattle.keys_sketches.specs.Shards.{sketches_of_texts}
-use Rattle.keys_sketches.proofs.Shards.{sample}
+use Rattle.keys_sketches.proofs.Shards.{part_of}
 use Rattle.keys_sketches.proofs.Rereads.{value_again}
 use Rattle.expression_text.specs.declared.operator.Step.{Step}
 use Rattle.expression_text.specs.Expressions.{Expression, postfix, HasIndicesBelow}
@@ -35,7 +35,7 @@ module _ (options : OptionValues) (seed : ℕ) where
       let hashing = chosen_hashing options seed in
       let lines = lines_of text in
       let V : Sketch ℕ → Type 0 = λ v. IsSample hash_key v (key_set hashing lines) in
-      (subst V (sym (value_again hashing options.lg_k lines)) (sample hashing options.lg_k lines), text_samples texts)
+      (subst V (sym (value_again hashing options.lg_k lines)) (part_of hashing options.lg_k lines).sample, text_samples texts)
 
   operand_samples : (keys : Bool) (texts : List (List ℕ)) (sketches : List (Compact ℕ)) (sets : List (List ℕ)) → AreOperands keys options seed texts sketches → AreWholeSets keys options seed texts sketches sets → AreSamples hash_key (values_of sketches) sets
   operand_samples true texts sketches sets operands are =

@@ -15,7 +15,7 @@ use Rattle.core_compact.specs.CompactState.{Compact, compact_value}
 use Rattle.core_laws.specs.Entries.{hash_key}
 use Rattle.core_laws.specs.Settings.{settings_refusal}
 use Rattle.core_laws.specs.declared.TheConstants.{MAX_THETA}
-use Rattle.theta_sketches.specs.Image.{Reads, written}
+use Rattle.theta_sketches.specs.Image.{written}
 use Rattle.keys_lines.specs.Keys.{fields_of, key_of}
 use Rattle.keys_lines.specs.Lines.{lines_of, lines_of_all}
 use Rattle.keys_lines.specs.declared.key.Hashing.{Hashing}
@@ -25,8 +25,8 @@ use Rattle.keys_sketches.specs.Hex.{hex_of, bytes_of_hex}
 use Rattle.keys_sketches.specs.Keys.{IsAmong, HaveSameLines, value_of_lines, sketch_of_value, image_of_lines}
 use Rattle.keys_sketches.specs.Shards.{values_of_sketches, AreRead}
 use Rattle.keys_sketches.specs.Unions.{IsUnitedImage}
-use Rattle.keys_sketches.proofs.Compacts.{compact}
-use Rattle.keys_sketches.proofs.Rereads.{ReadsOne, ReadsAgain, reads_it, value_again}
+use Rattle.keys_sketches.proofs.Compacts.{image_read}
+use Rattle.keys_sketches.proofs.Rereads.{ReadsOne, ReadsAgain, value_again}
 use Rattle.keys_sketches.proofs.Shards.{all_lines, AreValues, united_values}
 use Rattle.keys_sketches.proofs.Unions.{seeded}
 use Rattle.keys_groups.specs.Tabs.{before_tab}
@@ -246,14 +246,6 @@ module _ (one : ReadsOne) (again : ReadsAgain) (grouping : Grouping) (settled : 
   abbrev image_of : List (List ℕ) → List ℕ
   image_of lines = image_of_lines hashing grouping.lg_k lines
 
-  seed_of : (own : ℕ) (lines : List (List ℕ)) → (sketch_of_value hashing.seed (value_of_lines hashing own lines)).seed_hash ≡ seed_hash hashing.seed
-  seed_of own [] = refl
-  seed_of own (line ∷ lines) = refl
-
-  image_reads : (own : ℕ) (lines : List (List ℕ)) (image : List ℕ) → own ≤ 26 → image ≡ image_of_lines hashing own lines → Reads image (seed_hash hashing.seed) (sketch_of_value hashing.seed (value_of_lines hashing own lines))
-  image_reads own lines image small is =
-      reads_it again (sketch_of_value hashing.seed (value_of_lines hashing own lines)) hashing.seed image (compact hashing own lines small) (seed_of own lines) (seeded hashing.seed grouping.lg_k settled) is
-
   -- each image is that of the lines of its part, with at least the nominal entries of the union
   abbrev AreOfParts : (images : List (List ℕ)) → (parts : List (List (List ℕ))) → Type 0
   AreOfParts [] [] = ⊤
@@ -277,7 +269,8 @@ module _ (one : ReadsOne) (again : ReadsAgain) (grouping : Grouping) (settled : 
     (
       are.0.0,
       are.0.1,
-      ap (λ (r : Compact ℕ). compact_value hash_key r) (one image (seed_hash hashing.seed) s (sketch_of_value hashing.seed (value_of_lines hashing are.0.0 part)) read.0 (image_reads are.0.0 part image are.0.2 are.0.3)) ∙ value_again hashing are.0.0 part,
+      ap (λ (r : Compact ℕ). compact_value hash_key r) (one image (seed_hash hashing.seed) s (sketch_of_value hashing.seed (value_of_lines hashing are.0.0 part)) read.0 (image_read hashing again (seeded hashing.seed grouping.lg_k settled) are.0.0 image part are.0.2 are.0.3))
+          ∙ value_again hashing are.0.0 part,
     ),
     values_read images parts sketches are.1 read.1,
   )

@@ -1,52 +1,43 @@
 -- Ordered sketches of lines keep the laws of compact sketches, and their images are read as them.
-use Rattle.std.proofs.Common.{◌≡◌, ℕ, ◌^◌, ◌<◌, ◌≤◌, true, false, cond, List, [], ◌∷◌, ◌++◌, length, map, Some, None, refl, sym, ap, ◌∙◌, arith, append_assoc, append-nil}
+use Rattle.std.proofs.Common.{◌≡◌, ℕ, ◌^◌, ◌<◌, ◌≤◌, true, List, [], ◌∷◌, ◌++◌, length, map, refl, sym, ap, ◌∙◌, arith, append_assoc, append-nil}
+use Rattle.std.specs.Prelude.{filter}
 use Rattle.std.specs.List.{AllByRecursion, concat}
-use Rattle.std.specs.Option.{option_map_or}
 use Rattle.std.proofs.lemmas.Bool.Decides.{nat_tests}
 use Rattle.std.proofs.Math.Pow.{pow_mono}
 use Rattle.sketch_base.specs.Seed.{seed_hash}
 use Rattle.core_laws.specs.Cuts.{IsRetained, cut}
-use Rattle.core_laws.specs.Entries.{hash_key, hash_step, is_carried}
-use Rattle.core_laws.specs.Insertion.{whole_upsert}
-use Rattle.core_laws.specs.Leaf.{whole_from, hash_step_of}
-use Rattle.core_laws.specs.Maps.{entry_at, with_entry}
+use Rattle.core_laws.specs.Entries.{hash_key, is_carried}
+use Rattle.core_laws.specs.Maps.{map_of}
 use Rattle.core_laws.specs.declared.TheConstants.{MAX_THETA}
 use Rattle.core_laws.proofs.insertions.Cases.{IsRetained-cut, length-cut}
-use Rattle.core_laws.proofs.maps.Ascending.{each-with_entry}
-use Rattle.core_laws.proofs.cuts.WithinWholeMaps.{found_key}
+use Rattle.core_laws.proofs.maps.Ascending.{each-with_entry, each-passes}
 use Rattle.core_compact.specs.CompactState.{Compact, IsCompact}
 use Rattle.core_compact.proofs.LawsOfShown.{IsShown-retained, IsShown-none}
+use Rattle.core_streams.proofs.HashSets.{ascending-set_of, carried-set_of}
 use Rattle.theta_sketches.specs.Image.{Reads, written}
-use Rattle.keys_lines.specs.Keys.{line_hash}
+use Rattle.theta_sketches.specs.Streams.{set_of}
 use Rattle.keys_lines.specs.Lines.{lines_of, lines_of_all, AreWhole}
 use Rattle.keys_lines.specs.declared.key.Hashing.{Hashing}
-use Rattle.keys_sketches.specs.Keys.{line_steps, key_set, value_of_lines, sketch_of_value, image_of_text, image_of_lines, HaveSameLines}
+use Rattle.keys_sketches.specs.Keys.{line_hashes, key_set, value_of_lines, sketch_of_value, image_of_text, image_of_lines, HaveSameLines}
 use Rattle.keys_sketches.specs.Shards.{values_of_sketches, AreRead, AreImagesOfTexts, AreReadAsTexts, AreValuesOfTexts, sketches_of_texts, images_of_texts}
 use Rattle.keys_sketches.specs.Unions.{IsUnitedImage}
-use Rattle.keys_sketches.proofs.Shards.{sample, united_texts, united_lines_apart, same_value}
+use Rattle.keys_sketches.proofs.Shards.{united_texts, united_lines_apart, same_value}
 use Rattle.keys_sketches.proofs.Rereads.{ReadsOne, ReadsAgain, reads_it, values_read}
 
+nonzero-map_of : (hs : List ℕ) → AllByRecursion (λ (h : ℕ). 0 < h) hs → AllByRecursion (λ (h : ℕ). 0 < h) (map_of hash_key hs)
+nonzero-map_of [] all = tt
+nonzero-map_of (h ∷ hs) all = each-with_entry hash_key (λ (x : ℕ). 0 < x) (map_of hash_key hs) h (nonzero-map_of hs all.1) all.0
+
+nonzero-set_of : (hs : List ℕ) → AllByRecursion (λ (h : ℕ). 0 < h) (set_of hs)
+unfolding set_of
+nonzero-set_of hs = nonzero-map_of (filter is_carried hs) (each-passes (λ (h : ℕ). 0 < h) is_carried (λ h e. grind (arith, nat_tests)) hs)
+
 module _ (hashing : Hashing) where
-  nonzero-upsert : (h : ℕ) (w : List ℕ) → 0 < h → AllByRecursion (λ (e : ℕ). 0 < e) w → AllByRecursion (λ (e : ℕ). 0 < e) (whole_upsert hash_key h (hash_step h) w)
-  nonzero-upsert h w low all =
-      (elim (entry_at hash_key w h) as (λ o. entry_at hash_key w h ≡ o → AllByRecursion (λ (e : ℕ). 0 < e) (option_map_or (λ x. with_entry hash_key w x) o (with_entry hash_key w h))) [
-        | Some e ↦ λ found. let same : e ≡ h = found_key hash_key w h e found in each-with_entry hash_key (λ (z : ℕ). 0 < z) w e all (omega arith)
-        | None ↦ λ found. each-with_entry hash_key (λ (z : ℕ). 0 < z) w h all low
-      ]) refl
-
-  nonzero-from : (lines : List (List ℕ)) (w : List ℕ) → AllByRecursion (λ (e : ℕ). 0 < e) w → AllByRecursion (λ (e : ℕ). 0 < e) (whole_from hash_key hash_step_of (line_steps hashing lines) w)
-  nonzero-from [] w all = all
-  nonzero-from (line ∷ lines) w all = nonzero-from lines _
-      ((elim (is_carried (line_hash hashing line)) as (λ b. is_carried (line_hash hashing line) ≡ b → AllByRecursion (λ (e : ℕ). 0 < e) (cond b (whole_upsert hash_key (line_hash hashing line) (hash_step (line_hash hashing line)) w) w)) [
-        | true ↦ λ e. nonzero-upsert (line_hash hashing line) w (let h : ℕ = line_hash hashing line in grind (arith, nat_tests)) all
-        | false ↦ λ e. all
-      ]) refl)
-
   pub set_retained : (lg_k : ℕ) (lines : List (List ℕ)) → IsRetained hash_key (record { entries = key_set hashing lines; theta = MAX_THETA })
-  set_retained lg_k lines = let s = sample hashing lg_k lines in record {
-    ascending = s.ascending;
-    nonzero = nonzero-from lines [] tt;
-    below_theta = s.carried;
+  set_retained lg_k lines = record {
+    ascending = ascending-set_of (line_hashes hashing lines);
+    nonzero = nonzero-set_of (line_hashes hashing lines);
+    below_theta = carried-set_of (line_hashes hashing lines);
     theta_low = omega arith;
     theta_high = omega arith;
   }
@@ -67,19 +58,18 @@ module _ (hashing : Hashing) where
 
   -- the images of texts are read as their sketches
   module _ (again : ReadsAgain) (seeded : 0 < seed_hash hashing.seed) where
-    image_read : (lg_k : ℕ) (image text : List ℕ) → lg_k ≤ 26 → image ≡ image_of_text hashing lg_k text → Reads image (seed_hash hashing.seed) (sketch_of_value hashing.seed (value_of_lines hashing lg_k (lines_of text)))
-    image_read lg_k image text small is =
-        reads_it again (sketch_of_value hashing.seed (value_of_lines hashing lg_k (lines_of text))) hashing.seed image (compact lg_k (lines_of text) small) (seed_of lg_k (lines_of text)) seeded is
+    pub image_read : (lg_k : ℕ) (image : List ℕ) (lines : List (List ℕ)) → lg_k ≤ 26 → image ≡ image_of_lines hashing lg_k lines → Reads image (seed_hash hashing.seed) (sketch_of_value hashing.seed (value_of_lines hashing lg_k lines))
+    image_read lg_k image lines small is = reads_it again (sketch_of_value hashing.seed (value_of_lines hashing lg_k lines)) hashing.seed image (compact lg_k lines small) (seed_of lg_k lines) seeded is
 
     pub images_read : (lg_k : ℕ) → lg_k ≤ 26 → (texts : List (List ℕ)) → AreRead hashing.seed (images_of_texts hashing lg_k texts) (sketches_of_texts hashing lg_k texts)
     images_read lg_k small [] = tt
-    images_read lg_k small (text ∷ texts) = (image_read lg_k (image_of_text hashing lg_k text) text small refl, images_read lg_k small texts)
+    images_read lg_k small (text ∷ texts) = (image_read lg_k (image_of_text hashing lg_k text) (lines_of text) small refl, images_read lg_k small texts)
 
     all_read : (lg_k : ℕ) (images texts : List (List ℕ)) → AreImagesOfTexts hashing lg_k images texts → AreReadAsTexts hashing lg_k images texts
     all_read lg_k [] [] are = tt
     all_read lg_k [] (text ∷ texts) are = absurd are
     all_read lg_k (image ∷ images) [] are = absurd are
-    all_read lg_k (image ∷ images) (text ∷ texts) are = ((are.0.0, are.0.1, image_read are.0.0 image text are.0.2 are.0.3), all_read lg_k images texts are.1)
+    all_read lg_k (image ∷ images) (text ∷ texts) are = ((are.0.0, are.0.1, image_read are.0.0 image (lines_of text) are.0.2 are.0.3), all_read lg_k images texts are.1)
 
   -- images of texts with 2^lg_k nominal entries each
   pub own_images : (lg_k : ℕ) → lg_k ≤ 26 → (texts : List (List ℕ)) → AreImagesOfTexts hashing lg_k (images_of_texts hashing lg_k texts) texts

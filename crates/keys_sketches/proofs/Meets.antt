@@ -1,15 +1,13 @@
 -- Sketches that are intersected one after another.
-use Rattle.std.proofs.Common.{◌≡◌, ℕ, ◌+◌, ◌<◌, true, List, [], ◌∷◌, ◌++◌, length, get_or, take, Option, Some, None, Result, Ok, Err, refl, sym, ap, subst, ◌∙◌}
-use Rattle.std.specs.Prelude.{IfOk}
+use Rattle.std.proofs.Common.{◌≡◌, ℕ, ◌+◌, ◌<◌, true, List, [], ◌∷◌, ◌++◌, length, get_or, take, Option, Some, None, refl, sym, ap, subst, ◌∙◌}
 use Rattle.std.proofs.lemmas.List.{map_more}
 use Rattle.sketch_base.specs.Seed.{seed_hash}
-use Rattle.sketch_base.specs.declared.error.ErrorKind.{ErrorKind}
 use Rattle.core_laws.specs.Entries.{hash_key, first_hash}
 use Rattle.core_laws.specs.Operators.{meet, meet_next}
 use Rattle.core_laws.specs.Values.{Sketch, Empty}
 use Rattle.core_laws.proofs.operators.Meets.{meet_of_meet}
 use Rattle.core_operators.specs.Intersection.{IsAnswerIfAny}
-use Rattle.core_compact.specs.CompactState.{Compact, compact_value}
+use Rattle.core_compact.specs.CompactState.{Compact, compact_value, ordered_sketch}
 use Rattle.keys_sketches.specs.Keys.{sketch_of_value}
 use Rattle.keys_sketches.specs.Meeting.{result_or_empty, met_of}
 use Rattle.keys_sketches.specs.Shards.{values_of_sketches}
@@ -33,7 +31,7 @@ result_or_empty-met (v ∷ vs) = refl
 -- the result of an intersection, if there is one
 some_of : (seed : ℕ) (o : Option (Sketch ℕ)) (h : ℕ) (s : Compact ℕ) → h ≡ seed_hash seed → IsAnswerIfAny hash_key o h true (Some s) → s ≡ sketch_of_value seed (result_or_empty o)
 some_of seed None h s same is = absurd is
-some_of seed (Some v) h s same is = ordered_answer seed v h s same is
+some_of seed (Some v) h s same is = ordered_answer hash_key v h s is ∙ ap (ordered_sketch v) same
 
 pub some_answer : (seed : ℕ) (o : Option (Sketch ℕ)) (h : ℕ) (r : Option (Compact ℕ)) (s : Compact ℕ) → r ≡ Some s → h ≡ seed_hash seed → IsAnswerIfAny hash_key o h true r → s ≡ sketch_of_value seed (result_or_empty o)
 some_answer seed o h r s is same answer = some_of seed o h s same (subst (IsAnswerIfAny hash_key o h true) is answer)
@@ -44,10 +42,6 @@ none_of (Some v) h is = absurd is
 
 pub no_answer : (o : Option (Sketch ℕ)) (h : ℕ) (r : Option (Compact ℕ)) → r ≡ None → IsAnswerIfAny hash_key o h true r → Empty ≡ result_or_empty o
 no_answer o h r is answer = none_of o h (subst (IsAnswerIfAny hash_key o h true) is answer)
-
-pub same_result : (seed : ℕ) (r : Result (Compact ℕ) ErrorKind) (v w : Sketch ℕ) → w ≡ v → IfOk r (λ s. s ≡ sketch_of_value seed w) → IfOk r (λ s. s ≡ sketch_of_value seed v)
-same_result seed (Ok s) v w same is = is ∙ ap (sketch_of_value seed) same
-same_result seed (Err e) v w same is = tt
 
 pub same_item : (sketches : List (Compact ℕ)) (i : ℕ) (d : Compact ℕ) → d ≡ get_or sketches i d → compact_value hash_key d ≡ compact_value hash_key (get_or sketches i d)
 same_item sketches i d is = ap (λ s. compact_value hash_key s) is

@@ -1,6 +1,6 @@
 -- The preambles of images that are read: what they say is true, and the image alone is read too.
 use Rattle.std.proofs.Common.{◌≡◌, ℕ, suc, ◌+◌, ◌-◌, ◌*◌, ◌<◌, ◌≤◌, ◌⊎◌, Bool, true, false, cond, not, ◌&&◌, ◌||◌, eqb, ltb, leb, is_some, List, [], ◌∷◌, ◌++◌, length, take, drop, slice_index, bit_and, Option, Some, None, refl, sym, ap, subst, ◌∙◌, inl, inr, arith, append-nil, get_or-take, take-take, length-take-le, length-append, length-drop, take_all, eqb-true}
-use Rattle.std.proofs.lemmas.Bool.{eq-eqb}
+use Rattle.std.proofs.lemmas.Bool.{and_from, eq-eqb, le-leb}
 use Rattle.std.proofs.lemmas.Bool.Decides.{nat_tests}
 use Rattle.std.proofs.lemmas.List.{drop-take, take-append-le}
 use Rattle.sketch_base.specs.Bytes.{number}
@@ -185,26 +185,20 @@ record IsSaid (bytes : List ℕ) (start count : ℕ) : Type 0 where
   pub image : image_length bytes ≡ Some (start + 8 * count)
   pub entries : entry_count bytes ≡ count
 
-pub at_most : (a b : ℕ) → a ≤ b → leb a b ≡ true
-at_most a b le = grind (arith, nat_tests)
-
 pub not_below : (a b : ℕ) → b ≤ a → ltb a b ≡ false
 not_below a b le = grind (arith, nat_tests)
-
-pub both_true : (a b : Bool) → a ≡ true → b ≡ true → (a && b) ≡ true
-both_true a b p q = rw (p, q) refl
 
 said_of : (bytes : List ℕ) (longs version : ℕ) (empty : Bool) → Begins bytes longs version 3 → 1 ≤ version → version ≤ 3 → is_empty bytes ≡ empty → start_by version longs empty ≤ length bytes →
     IsSaid bytes (start_by version longs empty) (hashes_by version longs empty (count_at bytes))
 said_of bytes longs version empty b low high flag room =
     let start : preamble_length bytes ≡ start_by version longs empty = λ i. start_by (b.version_is i) (b.longs_are i) (flag i) in
     let count : announced_count bytes ≡ hashes_by version longs empty (count_at bytes) = λ i. hashes_by (b.version_is i) (b.longs_are i) (flag i) (count_at bytes) in
-    let longs_fit : has_longs bytes ≡ true = both_true (leb 1 (longs_at bytes)) (leb (longs_at bytes) 3) (at_most 1 (longs_at bytes) (omega (arith, b.longs_are, b.longs_low))) (at_most (longs_at bytes) 3 (omega (arith, b.longs_are, b.longs_high))) in
-    let version_fits : has_version bytes ≡ true = both_true (leb 1 (version_at bytes)) (leb (version_at bytes) 3) (at_most 1 (version_at bytes) (omega (arith, b.version_is, low))) (at_most (version_at bytes) 3 (omega (arith, b.version_is, high))) in
-    let inside : leb (preamble_length bytes) (length bytes) ≡ true = at_most (preamble_length bytes) (length bytes) (omega (arith, start, room)) in
+    let longs_fit : has_longs bytes ≡ true = and_from (leb 1 (longs_at bytes)) (leb (longs_at bytes) 3) (le-leb 1 (longs_at bytes) (omega (arith, b.longs_are, b.longs_low))) (le-leb (longs_at bytes) 3 (omega (arith, b.longs_are, b.longs_high))) in
+    let version_fits : has_version bytes ≡ true = and_from (leb 1 (version_at bytes)) (leb (version_at bytes) 3) (le-leb 1 (version_at bytes) (omega (arith, b.version_is, low))) (le-leb (version_at bytes) 3 (omega (arith, b.version_is, high))) in
+    let inside : leb (preamble_length bytes) (length bytes) ≡ true = le-leb (preamble_length bytes) (length bytes) (omega (arith, start, room)) in
     let room_is = leb (preamble_length bytes) (length bytes) in
-    let has : has_preamble bytes ≡ true = both_true (leb 8 (length bytes)) (has_longs bytes && (has_version bytes && room_is)) (at_most 8 (length bytes) b.whole)
-    (both_true (has_longs bytes) (has_version bytes && room_is) longs_fit (both_true (has_version bytes) room_is version_fits inside)) in record {
+    let has : has_preamble bytes ≡ true = and_from (leb 8 (length bytes)) (has_longs bytes && (has_version bytes && room_is)) (le-leb 8 (length bytes) b.whole)
+    (and_from (has_longs bytes) (has_version bytes && room_is) longs_fit (and_from (has_version bytes) room_is version_fits inside)) in record {
       has = has;
       image =
           ap (λ (t : Bool). cond t (Some (preamble_length bytes + 8 * announced_count bytes)) None) has
@@ -236,7 +230,7 @@ module _ (bytes : List ℕ) (h : ℕ) (nonzero : 0 < h) where
     whole = b.whole;
     longs_high = omega (arith, b.longs_are, b.longs_high);
     family = b.family_is;
-    version = both_true (leb 1 (version_at bytes)) (leb (version_at bytes) 3) (at_most 1 (version_at bytes) (omega (arith, b.version_is, low))) (at_most (version_at bytes) 3 (omega (arith, b.version_is, high)));
+    version = and_from (leb 1 (version_at bytes)) (leb (version_at bytes) 3) (le-leb 1 (version_at bytes) (omega (arith, b.version_is, low))) (le-leb (version_at bytes) 3 (omega (arith, b.version_is, high)));
     seed = seed;
   }
 

@@ -14,7 +14,7 @@ use Rattle.theta_sketches.specs.Image.{Reads, written}
 use Rattle.keys_lines.specs.Lines.{lines_of}
 use Rattle.keys_sketches.specs.Keys.{key_set, value_of_lines, sketch_of_value}
 use Rattle.keys_sketches.specs.Shards.{AreRead, AreReadAsTexts, AreValuesOfTexts, values_of_sketches}
-use Rattle.keys_sketches.proofs.Shards.{sample}
+use Rattle.keys_sketches.proofs.Shards.{part_of}
 use Rattle.keys_lines.specs.declared.key.Hashing.{Hashing}
 
 -- bytes are read as one sketch at most
@@ -30,7 +30,7 @@ module _ (hashing : Hashing) where
   -- the sketch of the value of lines has that value
   pub value_again : (lg_k : ℕ) (lines : List (List ℕ)) → compact_value hash_key (sketch_of_value hashing.seed (value_of_lines hashing lg_k lines)) ≡ value_of_lines hashing lg_k lines
   value_again lg_k [] = refl
-  value_again lg_k (line ∷ lines) = again _ (key_set hashing (line ∷ lines)) (sample hashing lg_k (line ∷ lines))
+  value_again lg_k (line ∷ lines) = again _ (key_set hashing (line ∷ lines)) (part_of hashing lg_k (line ∷ lines)).sample
 
   module _ (one : ReadsOne) (lg_k : ℕ) where
     -- the values of the sketches that were read are those of the texts

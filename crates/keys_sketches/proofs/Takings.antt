@@ -34,7 +34,7 @@ module _ (hashing : Hashing) where
       λ i. record { map = whole i; empty = empty_is i }
 
   -- lines are inserted by their hashes
-  with_lines-hashes : (lines : List (List ℕ)) (s : LineState) →
+  pub with_lines-hashes : (lines : List (List ℕ)) (s : LineState) →
       with_lines hashing s lines ≡ record { map = after_hashes (map (line_hash hashing) lines) s.map; empty = s.empty && (length (map (line_hash hashing) lines) == 0) }
   with_lines-hashes [] s = λ i. record { map = s.map; empty = sym (and_true s.empty) i }
   with_lines-hashes (line ∷ lines) s = with_lines-hashes lines (with_line hashing s line) ∙ (λ i. record { map = after_hashes (map (line_hash hashing) (line ∷ lines)) s.map; empty = sym (and_false s.empty (length (map (line_hash hashing) lines))) i })
@@ -46,7 +46,7 @@ module _ (hashing : Hashing) where
       let none : t.empty ≡ (s.empty && (length (map (line_hash hashing) lines) == 0)) = empty_is ∙ ap (λ hs. s.empty && (length hs == 0)) is in
       (λ i. record { map = whole i; empty = none i }) ∙ sym (with_lines-hashes lines (line_state s))
 
-  with_lines-append : (lines others : List (List ℕ)) (s : LineState) → with_lines hashing s (lines ++ others) ≡ with_lines hashing (with_lines hashing s lines) others
+  pub with_lines-append : (lines others : List (List ℕ)) (s : LineState) → with_lines hashing s (lines ++ others) ≡ with_lines hashing (with_lines hashing s lines) others
   with_lines-append [] others s = refl
   with_lines-append (line ∷ lines) others s = with_lines-append lines others (with_line hashing s line)
 

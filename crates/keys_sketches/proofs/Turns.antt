@@ -3,8 +3,9 @@ use Rattle.std.proofs.Common.{◌≡◌, ℕ, ◌+◌, length, List, [], ◌∷�
 use Rattle.std.specs.Prelude.{IfSome}
 use Rattle.keys_lines.specs.Lines.{lines_of, lines_of_all}
 use Rattle.keys_lines.specs.declared.key.Hashing.{Hashing}
-use Rattle.keys_sketches.specs.Keys.{LineState, with_line, with_lines}
+use Rattle.keys_sketches.specs.Keys.{LineState, with_lines}
 use Rattle.keys_sketches.specs.Sources.{IsFirst, GivesNext, LeadsTo, Continues}
+use Rattle.keys_sketches.proofs.Takings.{with_lines-append}
 
 -- a fact about a value that may be there implies another one if it does for each value
 pub if_some : {T : Type 0} (o : Option T) (P Q : T → Type 0) → ((x : T) → P x → Q x) → IfSome o P → IfSome o Q
@@ -27,10 +28,6 @@ if_any None = tt
 if_any (Some x) = tt
 
 module _ (hashing : Hashing) where
-  with_lines-append : (s : LineState) (xs ys : List (List ℕ)) → with_lines hashing s (xs ++ ys) ≡ with_lines hashing (with_lines hashing s xs) ys
-  with_lines-append s [] ys = refl
-  with_lines-append s (x ∷ xs) ys = with_lines-append (with_line hashing s x) xs ys
-
   pub leads_itself : (texts : Option (List (List ℕ))) (s : LineState) → LeadsTo hashing texts s texts s
   leads_itself None s = tt
   leads_itself (Some texts) s = refl
@@ -41,7 +38,7 @@ module _ (hashing : Hashing) where
     one_more texts left s t u source new so_far first taken =
         let is : u ≡ with_lines hashing t (lines_of first.text) = subst (λ (o : Option (List ℕ)). IfSome o (λ text. u ≡ with_lines hashing t (lines_of text))) first.has taken in
         subst (λ (o : Option (List (List ℕ))). LeadsTo hashing (Some texts) s o u) (sym first.leaves)
-        (so_far ∙ ap (λ ts. with_lines hashing t (lines_of_all ts)) first.parted ∙ with_lines-append t (lines_of first.text) (lines_of_all first.texts_left) ∙ ap (λ v. with_lines hashing v (lines_of_all first.texts_left)) (sym is))
+        (so_far ∙ ap (λ ts. with_lines hashing t (lines_of_all ts)) first.parted ∙ with_lines-append hashing (lines_of first.text) (lines_of_all first.texts_left) t ∙ ap (λ v. with_lines hashing v (lines_of_all first.texts_left)) (sym is))
 
     -- one more source
     pub leads_next : (old now new : Option (List (List ℕ))) (s t u : LineState) (o : Option S) (source : S) → LeadsTo hashing old s now t → GivesNext remaining now new o → o ≡ Some source →

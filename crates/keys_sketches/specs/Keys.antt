@@ -3,26 +3,25 @@ use Rattle.std.specs.Prelude.{ℕ, ◌≡◌, ◌⊎◌, ◌^◌, Bool, true, fa
 use Rattle.sketch_base.specs.Seed.{seed_hash}
 use Rattle.core_compact.specs.CompactState.{Compact, ordered_sketch}
 use Rattle.core_laws.specs.Entries.{hash_step, hash_key}
-use Rattle.core_laws.specs.declared.leaf.LeafStep.{LeafStep}
-use Rattle.core_laws.specs.declared.leaf.LeafStep.TheVariants.{Add}
-use Rattle.core_laws.specs.Leaf.{added, kmin}
+use Rattle.core_laws.specs.Leaf.{kmin}
 use Rattle.core_laws.specs.Values.{Sketch, Empty, NonEmpty}
 use Rattle.core_table.specs.HashTable.{MapTable, empty_table}
 use Rattle.core_laws.specs.Insertion.{after_upsert}
 use Rattle.core_state.specs.Updatable.{Updatable}
 use Rattle.core_laws.specs.declared.TheConstants.{MAX_THETA}
 use Rattle.theta_sketches.specs.Image.{written}
+use Rattle.theta_sketches.specs.Streams.{set_of}
 use Rattle.keys_lines.specs.Keys.{line_hash}
 use Rattle.keys_lines.specs.Lines.{lines_of}
 use Rattle.keys_lines.specs.declared.key.Hashing.{Hashing}
 
--- lines, as the steps of a leaf
-abbrev pub line_steps : Hashing → List (List ℕ) → List (LeafStep (Unit {0}))
-line_steps hashing lines = map (λ line. Add (line_hash hashing line) tt) lines
+-- the hashes of lines, a stream
+abbrev pub line_hashes : Hashing → List (List ℕ) → List ℕ
+line_hashes hashing lines = map (line_hash hashing) lines
 
 -- the set of the hashes of lines
 abbrev pub key_set : Hashing → List (List ℕ) → List ℕ
-key_set hashing lines = added (line_steps hashing lines)
+key_set hashing lines = set_of (line_hashes hashing lines)
 
 -- the value of lines: the k smallest of the set of their hashes, and Empty if there are no lines
 abbrev pub value_of_lines : Hashing → (lg_k : ℕ) → List (List ℕ) → Sketch ℕ

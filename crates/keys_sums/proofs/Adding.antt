@@ -4,17 +4,18 @@ use Rattle.std.specs.Prelude.{◌==◌, nat_lt, IfOk, IfErr, OnOk}
 use Rattle.std.specs.Option.{option_map_or}
 use Rattle.std.proofs.lemmas.Bool.Decides.{nat_tests}
 use Rattle.std.proofs.lemmas.List.{map-append}
+use Rattle.std.proofs.lemmas.Result.{IfOk-weaker}
 use Rattle.sketch_base.specs.Seed.{seed_hash}
 use Rattle.sketch_base.specs.declared.error.ErrorKind.{ErrorKind}
 use Rattle.sketch_base.specs.declared.error.ErrorKind.TheVariants.{OutOfMemory, Policy}
-use Rattle.core_compact.specs.CompactState.{Compact, IsAnswer}
+use Rattle.core_compact.specs.CompactState.{Compact, IsAnswer, ordered_sketch}
 use Rattle.core_laws.specs.Cuts.{Retained, none_below}
 use Rattle.core_laws.specs.Folds.{Fold, fold_key, folded, folded_of, unmarked}
 use Rattle.core_laws.specs.Insertion.{after_upsert, is_screened, upsert_refusal}
 use Rattle.core_laws.specs.Leaf.{leaf_from}
 use Rattle.core_laws.specs.Maps.{entry_at}
 use Rattle.core_laws.specs.Refusal.{Refuses}
-use Rattle.core_laws.specs.Values.{Empty, NonEmpty}
+use Rattle.core_laws.specs.Values.{Sketch, Empty, NonEmpty}
 use Rattle.core_laws.specs.declared.TheConstants.{MAX_THETA}
 use Rattle.core_laws.specs.declared.leaf.LeafStep.{LeafStep}
 use Rattle.core_laws.specs.declared.leaf.LeafStep.TheVariants.{Add}
@@ -28,10 +29,11 @@ use Rattle.core_state.specs.Updatable.{Updatable, sketch_value}
 use Rattle.core_table.specs.HashTable.{MapTable, after_insertion, trimmed_table}
 use Rattle.keys_lines.specs.Keys.{line_hash}
 use Rattle.keys_lines.specs.declared.key.Hashing.{Hashing}
+use Rattle.keys_sketches.proofs.Worth.{ordered_answer}
 use Rattle.keys_sums.specs.Sums.{folds_of_lines, sum_at, sum_steps, sums_of_lines, sketch_of_sums, HasSummed}
 use Rattle.keys_sums.specs.Refusals.{IsAddRefusal, IsPast}
 use Rattle.keys_sums.proofs.Amounts.{sum_append}
-use Rattle.keys_sums.proofs.Exact.{folds_keep, not_none, retained_number, trimmed_exact, ordered_result}
+use Rattle.keys_sums.proofs.Exact.{folds_keep, not_none, retained_number, trimmed_exact}
 
 has_one : {T : Type 0} (xs : List T) (x : T) → (length (xs ++ x ∷ []) == 0) ≡ false
 has_one [] x = not_none x []
@@ -140,5 +142,7 @@ module _ (hashing : Hashing) (amount : List ℕ → ℕ) (lg_k : ℕ) where
   pub finished_sums : (lines : List (List ℕ)) (s t : Updatable (TupleEntry ℕ)) (r : Result (Compact (TupleEntry ℕ)) ErrorKind) → HasSummed hashing amount lg_k lines s → t.empty ≡ s.empty → t.map ≡ trimmed_table tuple_key s.map
       → IfOk r (IsAnswer tuple_key (sketch_value t) t.map.seed_hash true) → IfOk r (λ c. c ≡ sketch_of_sums hashing amount lg_k lines)
   finished_sums lines s t r has same after is =
-      ordered_result r (sketch_value t) (sums_of_lines hashing amount lg_k lines) t.map.seed_hash (seed_hash hashing.seed) (trimmed_value lines s t has same after)
-      (ap (λ (m : MapTable (TupleEntry ℕ)). m.seed_hash) after ∙ has.same_seed) is
+      IfOk-weaker r _ _ (λ c answer.
+      ordered_answer tuple_key (sketch_value t) t.map.seed_hash c answer
+      ∙ ap (λ (v : Sketch (TupleEntry ℕ)). ordered_sketch v t.map.seed_hash) (trimmed_value lines s t has same after)
+      ∙ ap (ordered_sketch (sums_of_lines hashing amount lg_k lines)) (ap (λ (m : MapTable (TupleEntry ℕ)). m.seed_hash) after ∙ has.same_seed)) is

@@ -2,79 +2,28 @@
 use Rattle.std.proofs.Common.{◌≡◌, ◌≢◌, ℕ, ◌+◌, ◌^◌, ◌<◌, ◌≤◌, true, false, cond, eqb, ltb, List, [], ◌∷◌, map, Some, None, inl, inr, refl, sym, ap, subst, ◌∙◌, arith}
 use Rattle.std.specs.Prelude.{is_some, Option}
 use Rattle.std.specs.List.{AllByRecursion}
-use Rattle.std.specs.Option.{option_map_or}
 use Rattle.std.proofs.lemmas.Bool.{cases_lt}
 use Rattle.std.proofs.lemmas.Bool.Decides.{nat_tests}
 use Rattle.core_laws.specs.Cuts.{Retained}
 use Rattle.core_laws.specs.Entries.{hash_key, is_carried}
 use Rattle.core_laws.specs.Insertion.{is_screened}
-use Rattle.core_laws.specs.Leaf.{hash_step_of, kmin, whole_from, whole_step}
-use Rattle.core_laws.specs.Maps.{IsAscending, below, entry_at, with_entry}
+use Rattle.core_laws.specs.Leaf.{kmin}
+use Rattle.core_laws.specs.Maps.{IsAscending, below, entry_at}
 use Rattle.core_laws.specs.declared.TheConstants.{MAX_THETA}
-use Rattle.core_laws.specs.declared.leaf.LeafStep.TheVariants.{Add}
-use Rattle.core_laws.proofs.cuts.WithinWholeMaps.{found_key}
 use Rattle.core_laws.proofs.maps.Ascending.{ascending-head, ascending-tail}
-use Rattle.core_laws.proofs.maps.LookUps.{entry_at-below, entry_at-with_entry, entry_at_head, entry_at_past, entry_at_rest}
+use Rattle.core_laws.proofs.maps.LookUps.{entry_at-below, entry_at_head, entry_at_past, entry_at_rest}
 use Rattle.core_laws.proofs.maps.MapsOfLists.{ascending-from_map, each-from_map}
 use Rattle.core_slots.specs.Entry.{tuple_of}
 use Rattle.keys_lines.specs.Keys.{line_hash}
 use Rattle.keys_lines.specs.declared.key.Hashing.{Hashing}
-use Rattle.keys_sketches.specs.Keys.{key_set, line_steps, IsAmong}
+use Rattle.keys_sketches.specs.Keys.{key_set, IsAmong}
 use Rattle.keys_sketches.proofs.Compacts.{compact}
-use Rattle.keys_sketches.proofs.Shards.{sample}
+use Rattle.keys_sketches.proofs.Shards.{is_found, part_of}
 use Rattle.totals.specs.Totals.{sum_of, total_of}
 use Rattle.totals.proofs.Scaled.{exact_total}
 use Rattle.keys_sums.specs.Sums.{sum_at, sum_below, sketch_of_sums}
 
--- ---- the hash of a line is in the set of the hashes of lines
-
--- a hash that is put into a set
-put_at : (h : ℕ) (w : List ℕ) (q : ℕ) → entry_at hash_key (option_map_or (λ x. with_entry hash_key w x) (entry_at hash_key w h) (with_entry hash_key w h)) q ≡ cond (eqb h q) (Some h) (entry_at hash_key w q)
-put_at h w q =
-    (elim (entry_at hash_key w h) as (λ o. entry_at hash_key w h ≡ o → entry_at hash_key (option_map_or (λ x. with_entry hash_key w x) o (with_entry hash_key w h)) q ≡ cond (eqb h q) (Some h) (entry_at hash_key w q)) [
-      | Some e ↦ λ found. let same : e ≡ h = found_key hash_key w h e found in subst (λ (x : ℕ). entry_at hash_key (with_entry hash_key w e) q ≡ cond (eqb x q) (Some x) (entry_at hash_key w q)) same (entry_at-with_entry hash_key w e q)
-      | None ↦ λ none. entry_at-with_entry hash_key w h q
-    ]) refl
-
 module _ (hashing : Hashing) where
-  abbrev after : List (List ℕ) → List ℕ → List ℕ
-  after lines w = whole_from hash_key hash_step_of (line_steps hashing lines) w
-
-  abbrev with_hash : List ℕ → List ℕ → List ℕ
-  with_hash line w = whole_step hash_key hash_step_of (Add (line_hash hashing line) (tt {0})) w
-
-  stays_put : (line w : List ℕ) (q : ℕ) → entry_at hash_key w q ≡ Some q → entry_at hash_key (with_hash line w) q ≡ Some q
-  stays_put line w q there =
-      let h : ℕ = line_hash hashing line in
-      elim (is_carried h) as (λ b. entry_at hash_key (cond b (option_map_or (λ x. with_entry hash_key w x) (entry_at hash_key w h) (with_entry hash_key w h)) w) q ≡ Some q) [
-        | true ↦ put_at h w q ∙ (elim (eqb h q) as (λ b. eqb h q ≡ b → cond b (Some h) (entry_at hash_key w q) ≡ Some q) [
-          | true ↦ λ e. let same : h ≡ q = grind (arith, nat_tests) in ap (λ (x : ℕ). Some x) same
-          | false ↦ λ e. there
-        ]) refl
-        | false ↦ there
-      ]
-
-  is_put : (line w : List ℕ) → is_carried (line_hash hashing line) ≡ true → entry_at hash_key (with_hash line w) (line_hash hashing line) ≡ Some (line_hash hashing line)
-  is_put line w carried =
-      let h : ℕ = line_hash hashing line in
-      let itself : eqb h h ≡ true = grind (arith, nat_tests) in
-      ap (λ b. entry_at hash_key (cond b (option_map_or (λ x. with_entry hash_key w x) (entry_at hash_key w h) (with_entry hash_key w h)) w) h) carried
-      ∙ put_at h w h ∙ ap (λ b. cond b (Some h) (entry_at hash_key w h)) itself
-
-  stays : (lines : List (List ℕ)) (w : List ℕ) (q : ℕ) → entry_at hash_key w q ≡ Some q → entry_at hash_key (after lines w) q ≡ Some q
-  stays [] w q there = there
-  stays (line ∷ lines) w q there = stays lines (with_hash line w) q (stays_put line w q there)
-
-  pub is_found : (lines : List (List ℕ)) (line : List ℕ) → IsAmong line lines → is_carried (line_hash hashing line) ≡ true → (w : List ℕ) → entry_at hash_key (after lines w) (line_hash hashing line) ≡ Some (line_hash hashing line)
-  is_found [] line among carried w = absurd among
-  is_found (other ∷ lines) line among carried w =
-      elim among [
-        | inl same ↦
-            subst (λ (l : List ℕ). entry_at hash_key (after lines (with_hash l w)) (line_hash hashing line) ≡ Some (line_hash hashing line)) same
-            (stays lines (with_hash line w) (line_hash hashing line) (is_put line w carried))
-        | inr later ↦ is_found lines line later carried (with_hash other w)
-      ]
-
   -- ---- the sum at retained hashes, a line more
 
   module _ (amount : List ℕ → ℕ) where
@@ -126,7 +75,7 @@ module _ (hashing : Hashing) where
               | inl lt ↦
                   let carried : is_carried q ≡ true = grind (arith, nat_tests) in
                   let is_below : ltb q theta ≡ true = grind (arith, nat_tests) in
-                  let there : entry_at hash_key hashes q ≡ Some q = looked_up q ∙ ap (λ b. cond b (entry_at hash_key (key_set hashing lines) q) None) is_below ∙ is_found lines line among carried [] in
+                  let there : entry_at hash_key hashes q ≡ Some q = looked_up q ∙ ap (λ b. cond b (entry_at hash_key (key_set hashing lines) q) None) is_below ∙ is_found hashing lines line among carried in
                   let kept : is_screened q theta ≡ false = grind (arith, nat_tests) in
                   ap (λ (o : Option ℕ). cond (is_some o) (amount line) 0) there ∙ sym (ap (λ b. cond b 0 (amount line)) kept)
               | inr le ↦
@@ -148,7 +97,7 @@ module _ (hashing : Hashing) where
     sums_below lg_k (line ∷ lines) small =
         let shown = (compact hashing lg_k (line ∷ lines) small).shown in
         let kept : Retained ℕ = kmin (2 ^ lg_k) (key_set hashing (line ∷ lines)) MAX_THETA in
-        sum_of_some (line ∷ lines) kept.entries kept.theta (sample hashing lg_k (line ∷ lines)).all_below
+        sum_of_some (line ∷ lines) kept.entries kept.theta (part_of hashing lg_k (line ∷ lines)).sample.all_below
         (each-from_map hash_key (λ (h : ℕ). 0 < h) kept.entries shown.nonzero) shown.theta_high (line ∷ lines) (ascending-from_map hash_key kept.entries (shown.ascending refl)) (λ other among. among)
 
     -- an exact total

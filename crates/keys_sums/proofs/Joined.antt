@@ -30,14 +30,14 @@ use Rattle.core_slots.specs.Entry.{tuple_key, tuple_of, with_summary}
 use Rattle.core_slots.specs.declared.entry.TupleEntry.{TupleEntry}
 use Rattle.keys_lines.specs.Keys.{line_hash}
 use Rattle.keys_lines.specs.declared.key.Hashing.{Hashing}
-use Rattle.keys_sketches.specs.Keys.{key_set, IsAmong}
-use Rattle.keys_sketches.proofs.Compacts.{set_retained}
-use Rattle.keys_sketches.proofs.Shards.{all_lines, lawful, sample, sets-joined}
+use Rattle.core_streams.proofs.HashSets.{at-set_of, ascending-set_of, carried-set_of, none-set_of}
+use Rattle.keys_sketches.specs.Keys.{line_hashes, key_set, IsAmong}
+use Rattle.keys_sketches.proofs.Shards.{all_lines, is_nil, nil_is, is_found, part_of, parts_joined}
 use Rattle.keys_sums.specs.Sums.{sum_at, sums_of_lines}
 use Rattle.keys_sums.specs.Unions.{add_folds}
 use Rattle.keys_sums.proofs.Amounts.{sum_append}
-use Rattle.keys_sums.proofs.Below.{is_found}
 use Rattle.keys_sums.proofs.Exact.{injected}
+use Rattle.tuple_sketches.specs.Streams.{set_of}
 use Rattle.tuple_sketches.proofs.Sums.{HasNumber, each_found, retained_numbers}
 
 pub add_keeps : KeepsKey (fold_key tuple_key) add_folds
@@ -123,14 +123,6 @@ some_mapped : {X Y : Type 0} (f : X → Y) (o : Option X) → IsSome o → IsSom
 some_mapped f None some = some
 some_mapped f (Some x) some = some
 
-each_at : {X : Type 0} (key : X → ℕ) (P : X → Type 0) (xs : List X) (q : ℕ) (x : X) → AllByRecursion P xs → entry_at key xs q ≡ Some x → P x
-each_at key P [] q x all found = absurd (cc)
-each_at key P (y ∷ ys) q x all found =
-    (elim (eqb (key y) q) as (λ b. cond b (Some y) (entry_at key ys q) ≡ Some x → P x) [
-      | true ↦ λ e. let same : y ≡ x = cc in subst P same all.0
-      | false ↦ λ e. each_at key P ys q x all.1 e
-    ]) found
-
 -- what holds of hashes holds of the folds that are made of them
 each_made : {Y : Type 0} (f : ℕ → Y) (key : Y → ℕ) (P : ℕ → Type 0) (alike : (x : ℕ) → key (f x) ≡ x) (xs : List ℕ) → AllByRecursion (λ h. P h) xs → AllByRecursion (λ y. P (key y)) (map f xs)
 each_made f key P alike [] all = tt
@@ -154,7 +146,7 @@ module _ (hashing : Hashing) (amount : List ℕ → ℕ) where
   sum_map lines = map (fold_of lines) (key_set hashing lines)
 
   up_set : (lines : List (List ℕ)) → IsAscending hash_key (key_set hashing lines)
-  up_set lines = (sample hashing 4 lines).ascending
+  up_set lines = ascending-set_of (line_hashes hashing lines)
 
   up_sums : (lines : List (List ℕ)) → IsAscending (fold_key tuple_key) (sum_map lines)
   up_sums lines = ascending-from_map (fold_key tuple_key) (sum_map lines) (subst (IsAscending hash_key) (sym (map_self (fold_of lines) (fold_key tuple_key) (λ h. refl) (key_set hashing lines))) (up_set lines))
@@ -168,9 +160,13 @@ module _ (hashing : Hashing) (amount : List ℕ → ℕ) where
         map_again (λ h. tuple_of h (sum_at hashing amount lines h)) Value hashes ∙ ap (map (fold_of lines)) is ∙ sym (below-map (fold_of lines) hash_key (fold_key tuple_key) (λ h. refl) (key_set hashing lines) theta)
 
     sum_sample : (lines : List (List ℕ)) → IsSample (fold_key tuple_key) (unmarked_value (sums_of_lines hashing amount lg_k lines)) (sum_map lines)
-    sum_sample [] = record { ascending = up_sums []; carried = tt; all_below = refl }
+    sum_sample [] = record {
+      ascending = up_sums [];
+      carried = each_made (fold_of []) (fold_key tuple_key) (λ h. h < MAX_THETA) (λ h. refl) (key_set hashing []) (carried-set_of []);
+      all_below = ap (map (fold_of [])) none-set_of;
+    }
     sum_sample (line ∷ lines) =
-        let s = sample hashing lg_k (line ∷ lines) in record {
+        let s = (part_of hashing lg_k (line ∷ lines)).sample in record {
           ascending = up_sums (line ∷ lines);
           carried = each_made (fold_of (line ∷ lines)) (fold_key tuple_key) (λ h. h < MAX_THETA) (λ h. refl) (key_set hashing (line ∷ lines)) s.carried;
           all_below = below_sums (line ∷ lines) (kmin (2 ^ lg_k) (key_set hashing (line ∷ lines)) MAX_THETA).entries (kmin (2 ^ lg_k) (key_set hashing (line ∷ lines)) MAX_THETA).theta s.all_below;
@@ -186,7 +182,7 @@ module _ (hashing : Hashing) (amount : List ℕ → ℕ) where
 
     sum_lawful : (lines : List (List ℕ)) → IsLawfulValue (fold_key tuple_key) (2 ^ lg_k) MAX_THETA (unmarked_value (sums_of_lines hashing amount lg_k lines)) (sum_map lines)
     sum_lawful [] = tt
-    sum_lawful (line ∷ lines) = lawful_sums (line ∷ lines) (kmin (2 ^ lg_k) (key_set hashing (line ∷ lines)) MAX_THETA).theta (lawful hashing lg_k (line ∷ lines))
+    sum_lawful (line ∷ lines) = lawful_sums (line ∷ lines) (kmin (2 ^ lg_k) (key_set hashing (line ∷ lines)) MAX_THETA).theta (part_of hashing lg_k (line ∷ lines)).lawful
 
   -- ---- the folds of parts, joined
 
@@ -199,7 +195,7 @@ module _ (hashing : Hashing) (amount : List ℕ → ℕ) where
         | true ↦ λ e.
             let same : line_hash hashing line ≡ q = grind (arith, nat_tests) in
             let there : entry_at hash_key (key_set hashing lines) (line_hash hashing line) ≡ Some (line_hash hashing line) =
-            is_found hashing lines line (within line (inl refl)) (subst (λ (h : ℕ). is_carried h ≡ true) (sym same) carried) [] in
+            is_found hashing lines line (within line (inl refl)) (subst (λ (h : ℕ). is_carried h ≡ true) (sym same) carried) in
             let found : entry_at hash_key (key_set hashing lines) q ≡ Some q = subst (λ (h : ℕ). entry_at hash_key (key_set hashing lines) h ≡ Some h) same there in
             absurd (cc)
         | false ↦ λ e. omega (arith, later)
@@ -241,7 +237,7 @@ module _ (hashing : Hashing) (amount : List ℕ → ℕ) where
     matches_whole q =
         let same : 0 + sum_at hashing amount whole_lines q ≡ sum_at hashing amount whole_lines q = omega arith in
         subst (λ (n : ℕ). Matches q (entry_at (fold_key tuple_key) joined_folds q) (entry_at hash_key (key_set hashing whole_lines) q) n) same
-        (subst (λ (set : List ℕ). Matches q (entry_at (fold_key tuple_key) joined_folds q) (entry_at hash_key set q) (0 + sum_at hashing amount whole_lines q)) (sets-joined hashing parts [] (ascending-nil hash_key))
+        (subst (λ (set : List ℕ). Matches q (entry_at (fold_key tuple_key) joined_folds q) (entry_at hash_key set q) (0 + sum_at hashing amount whole_lines q)) (parts_joined hashing parts)
         (matches_parts parts [] [] 0 q (λ c. refl)))
 
     up_joined : IsAscending (fold_key tuple_key) joined_folds
@@ -255,16 +251,10 @@ module _ (hashing : Hashing) (amount : List ℕ → ℕ) where
 
     carried_at : (q : ℕ) (x : Fold (TupleEntry ℕ)) → entry_at (fold_key tuple_key) joined_folds q ≡ Some x → is_carried q ≡ true
     carried_at q x found =
-        let set : List ℕ = key_set hashing whole_lines in
-        let kept = set_retained hashing 4 whole_lines in
-        let there : entry_at hash_key set q ≡ Some (fold_key tuple_key x) =
-        sym (key_matches q (sum_at hashing amount whole_lines q) (entry_at (fold_key tuple_key) joined_folds q) (entry_at hash_key set q) (matches_whole q)) ∙ ap (option_map (fold_key tuple_key)) found in
-        let same : fold_key tuple_key x ≡ q = found_key hash_key set q (fold_key tuple_key x) there in
-        let low : 0 < fold_key tuple_key x = each_at hash_key (λ h. 0 < h) set q (fold_key tuple_key x) kept.nonzero there in
-        let high : fold_key tuple_key x < MAX_THETA = each_at hash_key (λ h. h < MAX_THETA) set q (fold_key tuple_key x) kept.below_theta there in
-        let positive : 0 < q = omega (arith, low, same) in
-        let below_greatest : q < MAX_THETA = omega (arith, high, same) in
-        grind (arith, nat_tests)
+        let hashes : List ℕ = line_hashes hashing whole_lines in
+        let there : entry_at hash_key (set_of hashes) q ≡ Some (fold_key tuple_key x) =
+        sym (key_matches q (sum_at hashing amount whole_lines q) (entry_at (fold_key tuple_key) joined_folds q) (entry_at hash_key (set_of hashes) q) (matches_whole q)) ∙ ap (option_map (fold_key tuple_key)) found in
+        (elim (is_carried q) as (λ b. cond b (entry_at hash_key hashes q) None ≡ Some (fold_key tuple_key x) → b ≡ true) [ true ↦ λ e. refl | false ↦ λ e. absurd (cc) ]) (sym (at-set_of hashes q) ∙ there)
 
     number_of : (q : ℕ) (x : Fold (TupleEntry ℕ)) → is_carried q ≡ true → HasSum q x (sum_at hashing amount whole_lines q) → HasNumber (sum_at hashing amount whole_lines) x
     number_of q (Value e) carried has = has.1 carried ∙ ap (sum_at hashing amount whole_lines) (sym has.0)
@@ -288,62 +278,38 @@ module _ (hashing : Hashing) (amount : List ℕ → ℕ) where
     abbrev in_folds : List (Sketch (TupleEntry ℕ)) → List (Sketch (Fold (TupleEntry ℕ)))
     in_folds values = map (λ v. unmarked_value v) values
 
-    samples : (values : List (Sketch (TupleEntry ℕ))) (parts : List (List (List ℕ))) → AreValues values parts → AreSamples (fold_key tuple_key) (in_folds values) (map sum_map parts)
-    samples [] [] are = tt
-    samples [] (part ∷ parts) are = absurd are
-    samples (value ∷ values) [] are = absurd are
-    samples (value ∷ values) (part ∷ parts) are = (
-      subst (λ v. IsSample (fold_key tuple_key) (unmarked_value v) (sum_map part)) (sym are.0.2) (sum_sample are.0.0 part),
-      samples values parts are.1,
-    )
-
-    lawfuls : (values : List (Sketch (TupleEntry ℕ))) (parts : List (List (List ℕ))) → AreValues values parts → AreLawful (fold_key tuple_key) (2 ^ lg_k) MAX_THETA (in_folds values) (map sum_map parts)
-    lawfuls [] [] are = tt
-    lawfuls [] (part ∷ parts) are = absurd are
-    lawfuls (value ∷ values) [] are = absurd are
-    lawfuls (value ∷ values) (part ∷ parts) are = (
-      lawful_less (fold_key tuple_key) (2 ^ lg_k) (2 ^ are.0.0) MAX_THETA (unmarked_value value) (sum_map part) (pow_mono {i = lg_k} {j = are.0.0} are.0.1)
-          (subst (λ v. IsLawfulValue (fold_key tuple_key) (2 ^ are.0.0) MAX_THETA (unmarked_value v) (sum_map part)) (sym are.0.2) (sum_lawful are.0.0 part)),
-      lawfuls values parts are.1,
-    )
+    are_parts : (values : List (Sketch (TupleEntry ℕ))) (parts : List (List (List ℕ))) → AreValues values parts → AreSamples (fold_key tuple_key) (in_folds values) (map sum_map parts) × AreLawful (fold_key tuple_key) (2 ^ lg_k) MAX_THETA (in_folds values) (map sum_map parts)
+    are_parts [] [] are = (tt, tt)
+    are_parts [] (part ∷ parts) are = absurd are
+    are_parts (value ∷ values) [] are = absurd are
+    are_parts (value ∷ values) (part ∷ parts) are =
+        let sample = subst (λ v. IsSample (fold_key tuple_key) (unmarked_value v) (sum_map part)) (sym are.0.2) (sum_sample are.0.0 part) in
+        let lawful = lawful_less (fold_key tuple_key) (2 ^ lg_k) (2 ^ are.0.0) MAX_THETA (unmarked_value value) (sum_map part) (pow_mono {i = lg_k} {j = are.0.0} are.0.1)
+        (subst (λ v. IsLawfulValue (fold_key tuple_key) (2 ^ are.0.0) MAX_THETA (unmarked_value v) (sum_map part)) (sym are.0.2) (sum_lawful are.0.0 part)) in
+        let rest = are_parts values parts are.1 in
+        ((sample, rest.0), (lawful, rest.1))
 
     -- values are Empty exactly if there are no lines
-    first_none : (own : ℕ) (part : List (List ℕ)) (values : List (Sketch (TupleEntry ℕ))) (rest : List (List ℕ)) → (nonempties (in_folds values) ≡ [] → rest ≡ []) →
-        nonempties (unmarked_value (sums_of_lines hashing amount own part) ∷ in_folds values) ≡ [] → part ++ rest ≡ []
-    first_none own [] values rest later none = later none
-    first_none own (line ∷ lines) values rest later none = absurd (cc)
+    first_none : (own : ℕ) (part : List (List ℕ)) (values : List (Sketch (TupleEntry ℕ))) (rest : List (List ℕ)) → is_nil (nonempties (in_folds values)) ≡ is_nil rest → is_nil (nonempties (unmarked_value (sums_of_lines hashing amount own part) ∷ in_folds values)) ≡ is_nil (part ++ rest)
+    first_none own [] values rest same = same
+    first_none own (line ∷ lines) values rest same = refl
 
-    none_none : (values : List (Sketch (TupleEntry ℕ))) (parts : List (List (List ℕ))) → AreValues values parts → nonempties (in_folds values) ≡ [] → all_lines hashing parts ≡ []
-    none_none [] [] are none = refl
-    none_none [] (part ∷ parts) are none = absurd are
-    none_none (value ∷ values) [] are none = absurd are
-    none_none (value ∷ values) (part ∷ parts) are none =
-        first_none are.0.0 part values (all_lines hashing parts) (none_none values parts are.1) (subst (λ v. nonempties (unmarked_value v ∷ in_folds values) ≡ []) are.0.2 none)
-
-    first_all : (own : ℕ) (part : List (List ℕ)) (values : List (Sketch (TupleEntry ℕ))) (rest : List (List ℕ)) → (rest ≡ [] → nonempties (in_folds values) ≡ []) →
-        part ++ rest ≡ [] → nonempties (unmarked_value (sums_of_lines hashing amount own part) ∷ in_folds values) ≡ []
-    first_all own [] values rest later none = later none
-    first_all own (line ∷ lines) values rest later none = absurd (cc)
-
-    all_none : (values : List (Sketch (TupleEntry ℕ))) (parts : List (List (List ℕ))) → AreValues values parts → all_lines hashing parts ≡ [] → nonempties (in_folds values) ≡ []
-    all_none [] [] are none = refl
-    all_none [] (part ∷ parts) are none = absurd are
-    all_none (value ∷ values) [] are none = absurd are
-    all_none (value ∷ values) (part ∷ parts) are none =
-        subst (λ v. nonempties (unmarked_value v ∷ in_folds values) ≡ []) (sym are.0.2) (first_all are.0.0 part values (all_lines hashing parts) (all_none values parts are.1) none)
-
-    some_line : (line : List ℕ) (lines all : List (List ℕ)) → all ≡ line ∷ lines → all ≡ [] → ⊥
-    some_line line lines all one other = cc
+    none_same : (values : List (Sketch (TupleEntry ℕ))) (parts : List (List (List ℕ))) → AreValues values parts → is_nil (nonempties (in_folds values)) ≡ is_nil (all_lines hashing parts)
+    none_same [] [] are = refl
+    none_same [] (part ∷ parts) are = absurd are
+    none_same (value ∷ values) [] are = absurd are
+    none_same (value ∷ values) (part ∷ parts) are = ap (λ v. is_nil (nonempties (unmarked_value v ∷ in_folds values))) are.0.2 ∙ first_none are.0.0 part values (all_lines hashing parts) (none_same values parts are.1)
 
     -- the union of values of parts, if it has no mark, is the value of all their lines
     pub united_exact : (values : List (Sketch (TupleEntry ℕ))) (parts : List (List (List ℕ))) → AreValues values parts → (u : Sketch (TupleEntry ℕ)) →
         unmarked_value u ≡ unite (fold_key tuple_key) add_folds (2 ^ lg_k) MAX_THETA (in_folds values) → u ≡ sums_of_lines hashing amount lg_k (all_lines hashing parts)
     united_exact values parts are u is = (elim (all_lines hashing parts) as (λ all. all_lines hashing parts ≡ all → u ≡ sums_of_lines hashing amount lg_k all) [
-      | [] ↦ λ e. is_empty u (is ∙ ap (unite_nonempty (fold_key tuple_key) add_folds (2 ^ lg_k) MAX_THETA) (all_none values parts are e))
+      | [] ↦ λ e. is_empty u (is ∙ ap (unite_nonempty (fold_key tuple_key) add_folds (2 ^ lg_k) MAX_THETA) (nil_is (nonempties (in_folds values)) (none_same values parts are ∙ ap is_nil e)))
       | line ∷ lines ↦ λ e.
-          let some : nonempties (in_folds values) ≡ [] → ⊥ = λ none. some_line line lines (all_lines hashing parts) e (none_none values parts are none) in
+          let some : nonempties (in_folds values) ≡ [] → ⊥ = λ none. (let wrong : true ≡ false = ap is_nil (sym none) ∙ none_same values parts are ∙ ap is_nil e in cc) in
+          let all = are_parts values parts are in
           let whole : unmarked_value u ≡ NonEmpty (cut (fold_key tuple_key) (2 ^ lg_k) (joined_folds parts) MAX_THETA) =
-          is ∙ union_lawful (fold_key tuple_key) add_folds add_keeps (2 ^ lg_k) MAX_THETA MAX_THETA (in_folds values) (map sum_map parts) (omega arith) (samples values parts are) (lawfuls values parts are) some in
+          is ∙ union_lawful (fold_key tuple_key) add_folds add_keeps (2 ^ lg_k) MAX_THETA MAX_THETA (in_folds values) (map sum_map parts) (omega arith) all.0 all.1 some in
           let kept = opened u (cut (fold_key tuple_key) (2 ^ lg_k) (joined_folds parts) MAX_THETA) whole in
           let exact = retained_numbers (sum_at hashing amount (all_lines hashing parts)) (key_set hashing (all_lines hashing parts)) (joined_folds parts) (keys_joined parts) (each_joined parts) (2 ^ lg_k) MAX_THETA kept.0 kept.2 in
           kept.1 ∙ ap (λ (v : Retained (TupleEntry ℕ)). NonEmpty v) exact

@@ -4,11 +4,16 @@ use Rattle.std.specs.Prelude.{◌&&◌, ◌==◌, not, nat_lt}
 use Rattle.std.specs.Char.{is_ascii_digit, digit_value}
 use Rattle.std.specs.Str.{all_ascii_digits}
 use Rattle.std.specs.Str.Parse.{digits_value, digits_value_after}
+use Rattle.std.proofs.lemmas.Bool.{and_parts}
 use Rattle.std.proofs.lemmas.Bool.Decides.{nat_tests}
-use Rattle.plan_text.proofs.words.Digits.{digit_is}
+use Rattle.std.proofs.lemmas.Option.{cond_some}
 use Rattle.keys_sums.specs.Amounts.{number_in}
 
 -- ---- digits, one behind another
+
+-- the value of a digit
+digit_is : (b : ℕ) → is_ascii_digit b ≡ true → digit_value b ≡ b - 48
+digit_is b e = grind (arith, nat_tests)
 
 after_append : (n : ℕ) (xs ys : List ℕ) → digits_value_after 10 n (xs ++ ys) ≡ digits_value_after 10 (digits_value_after 10 n xs) ys
 after_append n [] ys = refl
@@ -29,14 +34,6 @@ all_append (x ∷ xs) ys =
 abbrev tests : List ℕ → Bool
 tests bytes = not (length bytes == 0) && all_ascii_digits bytes && nat_lt (digits_value 10 bytes) (2 ^ 64)
 
-chosen : (b : Bool) (v n : ℕ) → cond b (Some v) None ≡ Some n → (b ≡ true) × (v ≡ n)
-chosen true v n is = (refl, cc)
-chosen false v n is = absurd (cc)
-
-both : (a b : Bool) → (a && b) ≡ true → (a ≡ true) × (b ≡ true)
-both true b is = (refl, is)
-both false b is = absurd (cc)
-
 -- what follows from a number that is spelled
 record Spelled (bytes : List ℕ) (n : ℕ) : Type 0 where
   digits : all_ascii_digits bytes ≡ true
@@ -44,9 +41,9 @@ record Spelled (bytes : List ℕ) (n : ℕ) : Type 0 where
 
 spelled : (bytes : List ℕ) (n : ℕ) → number_in bytes ≡ Some n → Spelled bytes n
 spelled bytes n is =
-    let parts = chosen (tests bytes) (digits_value 10 bytes) n is in
-    let first = both (not (length bytes == 0) && all_ascii_digits bytes) (nat_lt (digits_value 10 bytes) (2 ^ 64)) parts.0 in
-    record { digits = (both (not (length bytes == 0)) (all_ascii_digits bytes) first.0).1; value = parts.1 }
+    let parts = cond_some (tests bytes) (digits_value 10 bytes) n is in
+    let first = and_parts (not (length bytes == 0) && all_ascii_digits bytes) (nat_lt (digits_value 10 bytes) (2 ^ 64)) parts.0 in
+    record { digits = (and_parts (not (length bytes == 0)) (all_ascii_digits bytes) first.0).1; value = parts.1 }
 
 nothing_false : (bytes : List ℕ) → tests bytes ≡ false → number_in bytes ≡ None
 nothing_false bytes fails = ap (λ (b : Bool). cond b (Some (digits_value 10 bytes)) None) fails

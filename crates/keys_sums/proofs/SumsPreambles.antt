@@ -1,5 +1,6 @@
 -- The preambles of images of sums that are read: what they say is true, and the image alone is read too.
 use Rattle.std.proofs.Common.{◌≡◌, ℕ, ◌+◌, ◌*◌, ◌≤◌, Bool, true, false, cond, not, ◌&&◌, ◌||◌, eqb, leb, List, length, take, Option, Some, None, sym, ap, subst, ◌∙◌, inl, inr, arith, length-append}
+use Rattle.std.proofs.lemmas.Bool.{and_from, le-leb}
 use Rattle.core_compact.specs.CompactState.{Compact}
 use Rattle.core_images.specs.Preamble.{has_bit, is_empty, seed_hash_at, count_at}
 use Rattle.core_images.specs.Read.{ReadsFlagged}
@@ -10,7 +11,7 @@ use Rattle.tuple_sketches.specs.Image.{IsVersion, IsSketchType}
 use Rattle.keys_sketches.specs.Header.{longs_at, version_at, family_at, has_longs, flaw_by_length, MayBeRead}
 use Rattle.keys_sketches.specs.SumsHeader.{has_sums_version, has_sums_type, sums_preamble_length, has_sums_preamble, announced_sums, sums_length, sums_count, sums_flaw_of}
 use Rattle.keys_sketches.specs.declared.header.Flaw.TheVariants.{Family, Version, BigEndian, Seed, Damaged}
-use Rattle.keys_sketches.proofs.Preambles.{flagged_alone, begins_same, byte_at, at_most, both_true, past, either_way, not_other, size_flaw, whole_read}
+use Rattle.keys_sketches.proofs.Preambles.{flagged_alone, begins_same, byte_at, past, either_way, not_other, size_flaw, whole_read}
 use Rattle.keys_sums.specs.Images.{ReadsSums, BeginsWithSums}
 
 sum_long : (text : List ℕ) (e : TupleEntry ℕ) → SpellsTuple (SpellsNumber 8) text e → length text ≡ 16
@@ -46,13 +47,13 @@ sums_facts bytes h s reads =
     let long : 8 ≤ n = omega (arith, a.long) in
     let alone : ReadsFlagged tuple_key spells (take n bytes) longs h s = subst (λ (m : ℕ). ReadsFlagged tuple_key spells (take (a.start + m) bytes) longs h s) same a.alone in
     let version : has_sums_version bytes ≡ true = version_fits (version_at bytes) spelled.version b.version_is spelled.version_read in
-    let longs_fit : has_longs bytes ≡ true = both_true (leb 1 (longs_at bytes)) (leb (longs_at bytes) 3) (at_most 1 (longs_at bytes) (omega (arith, b.longs_are, b.longs_low))) (at_most (longs_at bytes) 3 (omega (arith, b.longs_are, b.longs_high))) in
+    let longs_fit : has_longs bytes ≡ true = and_from (leb 1 (longs_at bytes)) (leb (longs_at bytes) 3) (le-leb 1 (longs_at bytes) (omega (arith, b.longs_are, b.longs_low))) (le-leb (longs_at bytes) 3 (omega (arith, b.longs_are, b.longs_high))) in
     let start : sums_preamble_length bytes ≡ a.start = ap (λ (m : ℕ). cond (is_empty bytes) 8 (8 * m)) b.longs_are ∙ a.start_is in
     let count : announced_sums bytes ≡ a.count = ap (λ (m : ℕ). cond (is_empty bytes) 0 (cond (eqb m 1) 1 (count_at bytes))) b.longs_are ∙ a.count_is in
-    let inside : leb (sums_preamble_length bytes) (length bytes) ≡ true = at_most (sums_preamble_length bytes) (length bytes) (omega (arith, start, within)) in
+    let inside : leb (sums_preamble_length bytes) (length bytes) ≡ true = le-leb (sums_preamble_length bytes) (length bytes) (omega (arith, start, within)) in
     let room = leb (sums_preamble_length bytes) (length bytes) in
-    let has : has_sums_preamble bytes ≡ true = both_true (leb 8 (length bytes)) (has_longs bytes && (has_sums_version bytes && room)) (at_most 8 (length bytes) b.whole)
-    (both_true (has_longs bytes) (has_sums_version bytes && room) longs_fit (both_true (has_sums_version bytes) room version inside)) in record {
+    let has : has_sums_preamble bytes ≡ true = and_from (leb 8 (length bytes)) (has_longs bytes && (has_sums_version bytes && room)) (le-leb 8 (length bytes) b.whole)
+    (and_from (has_longs bytes) (has_sums_version bytes && room) longs_fit (and_from (has_sums_version bytes) room version inside)) in record {
       begins = record {
         size = n;
         size_is =

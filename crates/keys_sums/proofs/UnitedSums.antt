@@ -24,7 +24,7 @@ use Rattle.keys_lines.specs.Lines.{lines_of, lines_of_all}
 use Rattle.keys_lines.specs.declared.key.Hashing.{Hashing}
 use Rattle.keys_sketches.specs.Keys.{key_set}
 use Rattle.keys_sketches.proofs.Rereads.{seed_hash-small}
-use Rattle.keys_sketches.proofs.Shards.{lines_apart, sample}
+use Rattle.keys_sketches.proofs.Shards.{lines_apart, part_of}
 use Rattle.keys_sketches.proofs.Unions.{made_same}
 use Rattle.keys_sketches.proofs.Waiting.{all_joined, are_read-append}
 use Rattle.keys_sums.specs.Images.{AreReadSums, AreImagesOfTexts, ReadsSums, ReadsSumsUnder, written_sums}
@@ -87,7 +87,7 @@ module _ {P : Type 0} where
 module _ (hashing : Hashing) (amount : List ℕ → ℕ) where
   again : (lg_k : ℕ) (line : List ℕ) (lines : List (List ℕ)) → compact_value tuple_key (sketch_of_sums hashing amount lg_k (line ∷ lines)) ≡ sums_of_lines hashing amount lg_k (line ∷ lines)
   again lg_k line lines =
-      let s = sample hashing lg_k (line ∷ lines) in
+      let s = (part_of hashing lg_k (line ∷ lines)).sample in
       let kept : Retained ℕ = kmin (2 ^ lg_k) (key_set hashing (line ∷ lines)) MAX_THETA in
       let sum_of : ℕ → TupleEntry ℕ = λ h. tuple_of h (sum_at hashing amount (line ∷ lines) h) in
       let up : IsAscending hash_key kept.entries = subst (IsAscending hash_key) (sym s.all_below) (ascending-filter hash_key _ (key_set hashing (line ∷ lines)) s.ascending) in

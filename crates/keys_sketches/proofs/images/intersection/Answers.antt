@@ -1,14 +1,15 @@
 use Rattle.std.proofs.Common.{None, Some, ap, sym, ◌∙◌, inl, inr}
 use Rattle.std.proofs.lemmas.List.{take_all}
-use Rattle.std.proofs.lemmas.Result.{err_from_is_err_and}
+use Rattle.std.proofs.lemmas.Result.{err_from_is_err_and, IfOk-weaker}
 use Rattle.core_laws.specs.Entries.{hash_key, first_hash}
-use Rattle.core_laws.specs.Operators.{meet, meet_next}
+use Rattle.core_laws.specs.Operators.{meet_next}
 use Rattle.core_laws.specs.Shown.{shown_value}
 use Rattle.core_operators.specs.Intersection.{seed_refusal}
 use Rattle.theta_sketches.specs.View.{view_shows, view_sequence}
+use Rattle.keys_sketches.specs.Keys.{sketch_of_value}
 use Rattle.keys_sketches.specs.Meeting.{result_or_empty, met_of, meet_refusal, refusal_of_intersection}
 use Rattle.keys_sketches.specs.Shards.{values_of_sketches}
-use Rattle.keys_sketches.proofs.Meets.{met_next, result_or_empty-met, same_result, same_item}
+use Rattle.keys_sketches.proofs.Meets.{met_next, result_or_empty-met, same_item}
 use Rattle.keys_sketches.proofs.Refused.{one_at, met_further, met_refused, met_all, update_kind, only_kind, refuses_kind, refuses_memory, refuses_same, first_none, first_some}
 use Rattle.keys_sketches.proofs.images.intersection.Goals as goal
 
@@ -33,8 +34,8 @@ pub returns-clause-intersection : goal.returns-clause-intersection
 returns-clause-intersection g c =
     let i = c.loop-sketch.so_far in
     let all = take_all c.loop-sketch.sketch-index c.args.sketches.now c.loop-sketch-test.false in
-    same_result c.args.seed c.sketch_of.result (meet hash_key first_hash (values_of_sketches c.args.sketches.now)) (result_or_empty i.result)
-    (ap result_or_empty c.loop-sketch.invariant.value ∙ ap (λ xs. result_or_empty (met_of (values_of_sketches xs))) all ∙ result_or_empty-met (values_of_sketches c.args.sketches.now))
+    IfOk-weaker c.sketch_of.result _ _
+    (λ s is. is ∙ ap (sketch_of_value c.args.seed) (ap result_or_empty c.loop-sketch.invariant.value ∙ ap (λ xs. result_or_empty (met_of (values_of_sketches xs))) all ∙ result_or_empty-met (values_of_sketches c.args.sketches.now)))
     (c.sketch_of.ensures.value (c.loop-sketch.invariant.same_seed ∙ ap (λ x. x.seed_hash) c.in_ok-so_far.ensures.made))
 
 pub returns-clause-refused : goal.returns-clause-refused

@@ -1,12 +1,11 @@
-use Rattle.std.proofs.Common.{◌≡◌, ◌∷◌, ◌++◌, [], ℕ, List, Vec, Global, Option, Result, Ok, Err, true, refl, ap, sym, subst, ◌∙◌, arith}
-use Rattle.std.specs.Prelude.{length, map, IfOk}
-use Rattle.std.proofs.lemmas.Result.{err_from_is_err_and}
+use Rattle.std.proofs.Common.{◌≡◌, ◌∷◌, ◌++◌, [], ℕ, List, Vec, Global, Option, true, refl, ap, sym, subst, ◌∙◌, arith}
+use Rattle.std.specs.Prelude.{length, map}
+use Rattle.std.proofs.lemmas.Result.{err_from_is_err_and, IfOk-weaker}
 use Rattle.core_laws.specs.Refusal.{Refuses}
 use Rattle.core_laws.specs.declared.TheConstants.{MAX_THETA}
 use Rattle.core_laws.specs.Settings.{settings_refusal}
-use Rattle.keys_sketches.specs.Keys.{image_of_text, image_of_lines}
+use Rattle.keys_sketches.specs.Keys.{image_of_text}
 use Rattle.keys_sketches.specs.Shards.{AreImagesOfTexts, images_of_texts}
-use Rattle.keys_sketches.specs.Unions.{IsUnitedImage}
 use Rattle.keys_sketches.proofs.Compacts.{own_images, text_more, texts_made, united_apart}
 use Rattle.keys_sketches.proofs.Refused.{refuses_memory, text_refused}
 use Rattle.keys_sketches.proofs.Unions.{nothing_united, size_small}
@@ -41,10 +40,6 @@ returns-in_err-add_image-clause-refused g c =
     refuses_memory result (settings_refusal c.args.lg_k MAX_THETA c.args.hashing.seed) p.0 p.1
     (p.2 ∙ text_refused c.read_again.ensures c.args.hashing c.args.lg_k c.in-Some.text.now.items c.as_slice-in-Some.result.now c.in_err-add_image.field-0.0 c.in_ok-union.ensures.refused is (c.in_err-add_image.ensures.refused c.loop-text.invariant.ready))
 
-if_ok : {V E : Type 0} (r : Result V E) (P Q : V → Type 0) → IfOk r P → ((v : V) → P v → Q v) → IfOk r Q
-if_ok (Ok v) P Q holds then = then v holds
-if_ok (Err e) P Q holds then = tt
-
 pub returns : goal.returns
 returns g c = record {
   image = λ lines same.
@@ -54,7 +49,6 @@ returns g c = record {
       let are = texts_made (λ (v : Vec ℕ Global). v.items) c.args.hashing c.args.lg_k inv.0 c.loop-text.left.now (images_of_texts c.args.hashing c.args.lg_k texts) inv.1 none in
       let small = size_small c.args.hashing.seed c.args.lg_k c.in_ok-union.ensures.refused in
       let apart = subst (λ (is : List (List ℕ)). AreImagesOfTexts c.args.hashing c.args.lg_k is texts) (sym are) (own_images c.args.hashing c.args.lg_k small texts) in
-      if_ok c.united_image.result (λ v. IsUnitedImage c.args.hashing.seed c.args.lg_k inv.0 v.items) (λ v. v.items ≡ image_of_lines c.args.hashing c.args.lg_k lines) (c.united_image.ensures.image c.args.hashing.seed c.args.lg_k inv.0 inv.2)
-      (λ v image. united_apart c.one_reading.ensures c.read_again.ensures c.args.hashing c.args.lg_k texts lines inv.0 v.items same apart image);
+      IfOk-weaker c.united_image.result _ _ (λ v image. united_apart c.one_reading.ensures c.read_again.ensures c.args.hashing c.args.lg_k texts lines inv.0 v.items same apart image) (c.united_image.ensures.image c.args.hashing.seed c.args.lg_k inv.0 inv.2);
   refused = subst (λ (o : Option _). Refuses c.united_image.result o true) (sym c.in_ok-union.ensures.refused) (c.united_image.ensures.refused c.args.hashing.seed c.loop-text.invariant.ready);
 }

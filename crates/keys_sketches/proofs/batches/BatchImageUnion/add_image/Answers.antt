@@ -1,21 +1,11 @@
-use Rattle.std.proofs.Common.{◌∷◌, ◌++◌, [], ◌≡◌, Result, Ok, Err, Option, sym, subst}
-use Rattle.std.specs.Prelude.{IfErr, OnOk}
-use Rattle.std.proofs.lemmas.Result.{err_from_is_err_and}
-use Rattle.sketch_base.specs.declared.error.ErrorKind.{ErrorKind}
+use Rattle.std.proofs.Common.{◌∷◌, ◌++◌, [], sym, subst}
+use Rattle.std.specs.Prelude.{IfErr}
+use Rattle.std.proofs.lemmas.Result.{err_from_is_err_and, IfErr-weaker}
+use Rattle.core_streams.proofs.Calls.{on_both}
 use Rattle.keys_sketches.specs.Batches.{HasRead, IsReadyFor}
-use Rattle.keys_sketches.specs.Refusals.{IsImageRefusal, IsMergeError}
+use Rattle.keys_sketches.specs.Refusals.{IsImageRefusal}
 use Rattle.keys_sketches.proofs.Waiting.{waits_more, none_waits, ready_more, ready_none, merge_refused, read_refused}
 use Rattle.keys_sketches.proofs.batches.BatchImageUnion.add_image.Goals as goal
-
--- what two clauses of a result give together
-both_ok : {T E : Type 0} (r : Result T E) (P Q R : Type 0) → OnOk r P → OnOk r Q → (P → Q → R) → OnOk r R
-both_ok (Ok v) P Q R p q then = then p q
-both_ok (Err e) P Q R p q then = tt
-
--- a merge's refusal
-if_merge_refused : {T : Type 0} (r : Result T ErrorKind) (refusal : Option ErrorKind) (Fault : Type 0) → IfErr r (IsMergeError refusal) → IfErr r (IsImageRefusal refusal Fault)
-if_merge_refused (Ok v) refusal Fault refused = tt
-if_merge_refused (Err e) refusal Fault refused = merge_refused refusal Fault e refused
 
 pub returns-in_err-sketch-clause-refused : goal.returns-in_err-sketch-clause-refused
 returns-in_err-sketch-clause-refused g c = λ ready.
@@ -48,8 +38,7 @@ returns-clause-united g c = λ lg_k images has.
     let waits = subst (HasRead united reads all u) (sym c.in_ok-push.ensures.items)
     (waits_more united reads images c.args.image.now u c.args.self.now.waiting.items c.in_ok-sketch.sketch has c.in_ok-sketch.ensures.reads) in
     let new = c.merge_waiting.new.self in
-    both_ok c.merge_waiting.result (united all new.union) (new.waiting.items ≡ []) (HasRead united reads all new.union new.waiting.items)
-    (c.merge_waiting.ensures.united c.args.seed lg_k all waits) c.merge_waiting.ensures.none_waits (none_waits united reads all new.union new.waiting.items)
+    on_both c.merge_waiting.result (none_waits united reads all new.union new.waiting.items) (c.merge_waiting.ensures.united c.args.seed lg_k all waits) c.merge_waiting.ensures.none_waits
 
 pub returns-clause-ready : goal.returns-clause-ready
 returns-clause-ready g c = λ ready.
@@ -58,8 +47,7 @@ returns-clause-ready g c = λ ready.
     let u = c.args.self.now.union in
     let waits = subst (IsReadyFor is_ready reads u) (sym c.in_ok-push.ensures.items) (ready_more is_ready reads c.args.image.now u c.args.self.now.waiting.items c.in_ok-sketch.sketch ready c.in_ok-sketch.ensures.reads) in
     let new = c.merge_waiting.new.self in
-    both_ok c.merge_waiting.result (is_ready new.union) (new.waiting.items ≡ []) (IsReadyFor is_ready reads new.union new.waiting.items)
-    (c.merge_waiting.ensures.ready c.args.seed waits) c.merge_waiting.ensures.none_waits (ready_none is_ready reads new.union new.waiting.items)
+    on_both c.merge_waiting.result (ready_none is_ready reads new.union new.waiting.items) (c.merge_waiting.ensures.ready c.args.seed waits) c.merge_waiting.ensures.none_waits
 
 pub returns-clause-refused : goal.returns-clause-refused
 returns-clause-refused g c = λ ready.
@@ -67,4 +55,4 @@ returns-clause-refused g c = λ ready.
     let reads = g.U.SketchUnion.reads c.args.seed in
     let u = c.args.self.now.union in
     let waits = subst (IsReadyFor is_ready reads u) (sym c.in_ok-push.ensures.items) (ready_more is_ready reads c.args.image.now u c.args.self.now.waiting.items c.in_ok-sketch.sketch ready c.in_ok-sketch.ensures.reads) in
-    if_merge_refused c.merge_waiting.result g.U.SketchUnion.merge_refusal (g.U.SketchUnion.is_no_image c.args.seed c.args.image.now) (c.merge_waiting.ensures.refused c.args.seed waits)
+    IfErr-weaker c.merge_waiting.result _ _ (merge_refused g.U.SketchUnion.merge_refusal (g.U.SketchUnion.is_no_image c.args.seed c.args.image.now)) (c.merge_waiting.ensures.refused c.args.seed waits)
