@@ -1,5 +1,5 @@
 //! Estimates and bounds of a count, from the numbers of a sketch's state.
-ghost use Rattle.std.specs.Prelude.{◌≡◌, option_map};
+ghost use Rattle.std.specs.Prelude.{◌≡◌, ◌+◌, ◌*◌, ◌^◌, ◌<◌, option_map};
 ghost use Rattle.estimates.specs.Bounds.{deviation_count};
 ghost use Rattle.c_objects.specs.Bounds.{wide, is_state, valid_deviations};
 ghost use Rattle.c_objects.specs.Totals.{joined_halves};
@@ -29,7 +29,8 @@ pub fn split(number: u128) -> Wide
 
 /// The number of two halves.
 pub fn joined(halves: &Wide) -> u128
-    ensures { result ≡ joined_halves halves.now.low halves.now.high }
+    ensures value { result ≡ joined_halves halves.now.low halves.now.high }
+    ensures below { result < 2 ^ 64 * (halves.now.high + 1) }
 {
     halves.low as u128 + 18446744073709551616 * halves.high as u128
 }

@@ -17,4 +17,4 @@ returns-clause-parts c =
     let total = c.args.total.now in
     let is_valid = is_total total.low total.high c.args.theta && nat_le c.args.places MAX_PLACES in
     let valid : is_valid ≡ true = grind (arith, nat_tests, c.if-theta-total.false, c.if-theta-gt-MAX_THETA.false, c.if-places-gt-MAX_PLACES.false) in
-    rw (c.whole-whole.ensures, c.decimals-decimals.ensures, c.total_decimal-estimate.ensures, c.joined-number.ensures, valid) refl
+    rw (c.whole-whole.ensures, c.decimals-decimals.ensures, c.total_decimal-estimate.ensures, c.joined-number.ensures.value, valid) refl

@@ -8,4 +8,4 @@ returns c =
     let total = c.args.total.now in
     let is_valid = is_total total.low total.high c.args.theta in
     let valid : is_valid ≡ true = grind (arith, nat_tests, c.if-theta-total.false, c.if-theta-gt-MAX_THETA.false) in
-    rw (c.nearest_total.ensures, c.joined-number.ensures, valid) refl
+    rw (c.nearest_total.ensures, c.joined-number.ensures.value, valid) refl
