@@ -2,8 +2,8 @@
  * the proved export of its name with the prefix kcp_. Nothing else is done here. Made by make_calls.py from the exports of
  * crates/c_library: change those.
  *
- * A handle is const if the contract of the export says that its object is as it was. The export takes it by &mut all the same,
- * which needs the cast, and which is why two calls at once must not read one handle. */
+ * A handle is const if the export only reads its object. The export gets a reader, a copy of the handle that this call alone has;
+ * by its contract the object is lent to as many readers as there are, so calls at once may read one handle. */
 #include "proved.h"
 
 _Static_assert(sizeof(kc_theta) == 8, "the layout of the proved library");
@@ -50,7 +50,8 @@ kc_status kc_theta_new_with(kc_theta *sketch, uint8_t lg_k, uint64_t seed, uint3
 
 kc_status kc_theta_clone(const kc_theta *sketch, kc_theta *out) {
     REFUSE_UNLESS(sketch != NULL && out != NULL && sketch != out);
-    return kcp_theta_clone((kc_theta *)sketch, out);
+    kc_theta sketch_reader = *sketch;
+    return kcp_theta_clone(&sketch_reader, out);
 }
 
 kc_status kc_theta_free(kc_theta *sketch) {
@@ -91,17 +92,20 @@ kc_status kc_theta_reset(kc_theta *sketch) {
 
 kc_status kc_theta_state(const kc_theta *sketch, kc_state *out) {
     REFUSE_UNLESS(sketch != NULL && out != NULL);
-    return kcp_theta_state((kc_theta *)sketch, out);
+    kc_theta sketch_reader = *sketch;
+    return kcp_theta_state(&sketch_reader, out);
 }
 
 kc_status kc_theta_image(const kc_theta *sketch, void *out, size_t room, uint64_t *length) {
     REFUSE_UNLESS(sketch != NULL && IS_BUFFER(out, room) && length != NULL);
-    return kcp_theta_image((kc_theta *)sketch, OUTPUT(out, 0), room, length);
+    kc_theta sketch_reader = *sketch;
+    return kcp_theta_image(&sketch_reader, OUTPUT(out, 0), room, length);
 }
 
 kc_status kc_theta_compact(const kc_theta *sketch, kc_compact *out) {
     REFUSE_UNLESS(sketch != NULL && out != NULL);
-    return kcp_theta_compact((kc_theta *)sketch, out);
+    kc_theta sketch_reader = *sketch;
+    return kcp_theta_compact(&sketch_reader, out);
 }
 
 kc_status kc_theta_update_strings(kc_theta *sketch, const void *bytes, size_t bytes_count, const uint64_t *ends,
@@ -148,17 +152,20 @@ kc_status kc_compact_free(kc_compact *sketch) {
 
 kc_status kc_compact_clone(const kc_compact *sketch, kc_compact *out) {
     REFUSE_UNLESS(sketch != NULL && out != NULL && sketch != out);
-    return kcp_compact_clone((kc_compact *)sketch, out);
+    kc_compact sketch_reader = *sketch;
+    return kcp_compact_clone(&sketch_reader, out);
 }
 
 kc_status kc_compact_state(const kc_compact *sketch, kc_state *out) {
     REFUSE_UNLESS(sketch != NULL && out != NULL);
-    return kcp_compact_state((kc_compact *)sketch, out);
+    kc_compact sketch_reader = *sketch;
+    return kcp_compact_state(&sketch_reader, out);
 }
 
 kc_status kc_compact_image(const kc_compact *sketch, void *out, size_t room, uint64_t *length) {
     REFUSE_UNLESS(sketch != NULL && IS_BUFFER(out, room) && length != NULL);
-    return kcp_compact_image((kc_compact *)sketch, OUTPUT(out, 0), room, length);
+    kc_compact sketch_reader = *sketch;
+    return kcp_compact_image(&sketch_reader, OUTPUT(out, 0), room, length);
 }
 
 /* ---- Unions ---- */
@@ -176,12 +183,14 @@ kc_status kc_union_free(kc_union *u) {
 
 kc_status kc_union_add(kc_union *u, const kc_theta *sketch) {
     REFUSE_UNLESS(u != NULL && sketch != NULL);
-    return kcp_union_add(u, (kc_theta *)sketch);
+    kc_theta sketch_reader = *sketch;
+    return kcp_union_add(u, &sketch_reader);
 }
 
 kc_status kc_union_add_compact(kc_union *u, const kc_compact *sketch) {
     REFUSE_UNLESS(u != NULL && sketch != NULL);
-    return kcp_union_add_compact(u, (kc_compact *)sketch);
+    kc_compact sketch_reader = *sketch;
+    return kcp_union_add_compact(u, &sketch_reader);
 }
 
 kc_status kc_union_add_image(kc_union *u, const void *image, size_t count) {
@@ -191,12 +200,14 @@ kc_status kc_union_add_image(kc_union *u, const void *image, size_t count) {
 
 kc_status kc_union_result(const kc_union *u, kc_compact *out) {
     REFUSE_UNLESS(u != NULL && out != NULL);
-    return kcp_union_result((kc_union *)u, out);
+    kc_union u_reader = *u;
+    return kcp_union_result(&u_reader, out);
 }
 
 kc_status kc_union_image(const kc_union *u, void *out, size_t room, uint64_t *length) {
     REFUSE_UNLESS(u != NULL && IS_BUFFER(out, room) && length != NULL);
-    return kcp_union_image((kc_union *)u, OUTPUT(out, 0), room, length);
+    kc_union u_reader = *u;
+    return kcp_union_image(&u_reader, OUTPUT(out, 0), room, length);
 }
 
 kc_status kc_union_reset(kc_union *u) {
@@ -219,12 +230,14 @@ kc_status kc_batch_free(kc_batch *batch) {
 
 kc_status kc_batch_add(kc_batch *batch, const kc_theta *sketch) {
     REFUSE_UNLESS(batch != NULL && sketch != NULL);
-    return kcp_batch_add(batch, (kc_theta *)sketch);
+    kc_theta sketch_reader = *sketch;
+    return kcp_batch_add(batch, &sketch_reader);
 }
 
 kc_status kc_batch_add_compact(kc_batch *batch, const kc_compact *sketch) {
     REFUSE_UNLESS(batch != NULL && sketch != NULL);
-    return kcp_batch_add_compact(batch, (kc_compact *)sketch);
+    kc_compact sketch_reader = *sketch;
+    return kcp_batch_add_compact(batch, &sketch_reader);
 }
 
 kc_status kc_batch_add_image(kc_batch *batch, const void *image, size_t count) {
@@ -239,7 +252,8 @@ kc_status kc_batch_reset(kc_batch *batch) {
 
 kc_status kc_union_add_batch(kc_union *u, const kc_batch *batch) {
     REFUSE_UNLESS(u != NULL && batch != NULL);
-    return kcp_union_add_batch(u, (kc_batch *)batch);
+    kc_batch batch_reader = *batch;
+    return kcp_union_add_batch(u, &batch_reader);
 }
 
 /* ---- Intersections and differences ---- */
@@ -257,12 +271,14 @@ kc_status kc_intersection_free(kc_intersection *intersection) {
 
 kc_status kc_intersection_add(kc_intersection *intersection, const kc_theta *sketch) {
     REFUSE_UNLESS(intersection != NULL && sketch != NULL);
-    return kcp_intersection_add(intersection, (kc_theta *)sketch);
+    kc_theta sketch_reader = *sketch;
+    return kcp_intersection_add(intersection, &sketch_reader);
 }
 
 kc_status kc_intersection_add_compact(kc_intersection *intersection, const kc_compact *sketch) {
     REFUSE_UNLESS(intersection != NULL && sketch != NULL);
-    return kcp_intersection_add_compact(intersection, (kc_compact *)sketch);
+    kc_compact sketch_reader = *sketch;
+    return kcp_intersection_add_compact(intersection, &sketch_reader);
 }
 
 kc_status kc_intersection_add_image(kc_intersection *intersection, const void *image, size_t count) {
@@ -272,12 +288,15 @@ kc_status kc_intersection_add_image(kc_intersection *intersection, const void *i
 
 kc_status kc_intersection_result(const kc_intersection *intersection, kc_compact *out) {
     REFUSE_UNLESS(intersection != NULL && out != NULL);
-    return kcp_intersection_result((kc_intersection *)intersection, out);
+    kc_intersection intersection_reader = *intersection;
+    return kcp_intersection_result(&intersection_reader, out);
 }
 
 kc_status kc_difference(const kc_compact *first, const kc_compact *second, uint64_t seed, kc_compact *out) {
-    REFUSE_UNLESS(first != NULL && second != NULL && first != second && out != NULL && first != out && second != out);
-    return kcp_difference((kc_compact *)first, (kc_compact *)second, seed, out);
+    REFUSE_UNLESS(first != NULL && second != NULL && out != NULL && first != out && second != out);
+    kc_compact first_reader = *first;
+    kc_compact second_reader = *second;
+    return kcp_difference(&first_reader, &second_reader, seed, out);
 }
 
 /* ---- Images alone ---- */
@@ -315,7 +334,8 @@ kc_status kc_sums_new_with(kc_sums *sums, uint8_t lg_k, uint64_t seed, uint32_t 
 
 kc_status kc_sums_clone(const kc_sums *sums, kc_sums *out) {
     REFUSE_UNLESS(sums != NULL && out != NULL && sums != out);
-    return kcp_sums_clone((kc_sums *)sums, out);
+    kc_sums sums_reader = *sums;
+    return kcp_sums_clone(&sums_reader, out);
 }
 
 kc_status kc_sums_free(kc_sums *sums) {
@@ -351,22 +371,26 @@ kc_status kc_sums_reset(kc_sums *sums) {
 
 kc_status kc_sums_state(const kc_sums *sums, kc_state *out) {
     REFUSE_UNLESS(sums != NULL && out != NULL);
-    return kcp_sums_state((kc_sums *)sums, out);
+    kc_sums sums_reader = *sums;
+    return kcp_sums_state(&sums_reader, out);
 }
 
 kc_status kc_sums_image(const kc_sums *sums, void *out, size_t room, uint64_t *length) {
     REFUSE_UNLESS(sums != NULL && IS_BUFFER(out, room) && length != NULL);
-    return kcp_sums_image((kc_sums *)sums, OUTPUT(out, 0), room, length);
+    kc_sums sums_reader = *sums;
+    return kcp_sums_image(&sums_reader, OUTPUT(out, 0), room, length);
 }
 
 kc_status kc_sums_compact(const kc_sums *sums, kc_compact_sums *out) {
     REFUSE_UNLESS(sums != NULL && out != NULL);
-    return kcp_sums_compact((kc_sums *)sums, out);
+    kc_sums sums_reader = *sums;
+    return kcp_sums_compact(&sums_reader, out);
 }
 
 kc_status kc_sums_total(const kc_sums *sums, kc_wide *out) {
     REFUSE_UNLESS(sums != NULL && out != NULL);
-    return kcp_sums_total((kc_sums *)sums, out);
+    kc_sums sums_reader = *sums;
+    return kcp_sums_total(&sums_reader, out);
 }
 
 /* ---- Compact tuple sketches of sums ---- */
@@ -384,24 +408,28 @@ kc_status kc_compact_sums_free(kc_compact_sums *sums) {
 
 kc_status kc_compact_sums_state(const kc_compact_sums *sums, kc_state *out) {
     REFUSE_UNLESS(sums != NULL && out != NULL);
-    return kcp_compact_sums_state((kc_compact_sums *)sums, out);
+    kc_compact_sums sums_reader = *sums;
+    return kcp_compact_sums_state(&sums_reader, out);
 }
 
 kc_status kc_compact_sums_image(const kc_compact_sums *sums, void *out, size_t room, uint64_t *length) {
     REFUSE_UNLESS(sums != NULL && IS_BUFFER(out, room) && length != NULL);
-    return kcp_compact_sums_image((kc_compact_sums *)sums, OUTPUT(out, 0), room, length);
+    kc_compact_sums sums_reader = *sums;
+    return kcp_compact_sums_image(&sums_reader, OUTPUT(out, 0), room, length);
 }
 
 kc_status kc_compact_sums_entries(const kc_compact_sums *sums, uint64_t *hashes, uint64_t *values, size_t room,
                                   uint64_t *count) {
     REFUSE_UNLESS(sums != NULL && IS_BUFFER(hashes, room) && IS_BUFFER(values, room) && (room == 0 || hashes != values)
                   && count != NULL);
-    return kcp_compact_sums_entries((kc_compact_sums *)sums, NUMBERS(hashes, 0), room, NUMBERS(values, 1), room, count);
+    kc_compact_sums sums_reader = *sums;
+    return kcp_compact_sums_entries(&sums_reader, NUMBERS(hashes, 0), room, NUMBERS(values, 1), room, count);
 }
 
 kc_status kc_compact_sums_total(const kc_compact_sums *sums, kc_wide *out) {
     REFUSE_UNLESS(sums != NULL && out != NULL);
-    return kcp_compact_sums_total((kc_compact_sums *)sums, out);
+    kc_compact_sums sums_reader = *sums;
+    return kcp_compact_sums_total(&sums_reader, out);
 }
 
 /* ---- Unions of tuple sketches of sums ---- */
@@ -419,12 +447,14 @@ kc_status kc_sums_union_free(kc_sums_union *u) {
 
 kc_status kc_sums_union_add(kc_sums_union *u, const kc_sums *sketch) {
     REFUSE_UNLESS(u != NULL && sketch != NULL);
-    return kcp_sums_union_add(u, (kc_sums *)sketch);
+    kc_sums sketch_reader = *sketch;
+    return kcp_sums_union_add(u, &sketch_reader);
 }
 
 kc_status kc_sums_union_add_compact(kc_sums_union *u, const kc_compact_sums *sketch) {
     REFUSE_UNLESS(u != NULL && sketch != NULL);
-    return kcp_sums_union_add_compact(u, (kc_compact_sums *)sketch);
+    kc_compact_sums sketch_reader = *sketch;
+    return kcp_sums_union_add_compact(u, &sketch_reader);
 }
 
 kc_status kc_sums_union_add_image(kc_sums_union *u, const void *image, size_t count) {
@@ -434,12 +464,14 @@ kc_status kc_sums_union_add_image(kc_sums_union *u, const void *image, size_t co
 
 kc_status kc_sums_union_result(const kc_sums_union *u, kc_compact_sums *out) {
     REFUSE_UNLESS(u != NULL && out != NULL);
-    return kcp_sums_union_result((kc_sums_union *)u, out);
+    kc_sums_union u_reader = *u;
+    return kcp_sums_union_result(&u_reader, out);
 }
 
 kc_status kc_sums_union_image(const kc_sums_union *u, void *out, size_t room, uint64_t *length) {
     REFUSE_UNLESS(u != NULL && IS_BUFFER(out, room) && length != NULL);
-    return kcp_sums_union_image((kc_sums_union *)u, OUTPUT(out, 0), room, length);
+    kc_sums_union u_reader = *u;
+    return kcp_sums_union_image(&u_reader, OUTPUT(out, 0), room, length);
 }
 
 kc_status kc_sums_union_reset(kc_sums_union *u) {
@@ -462,12 +494,14 @@ kc_status kc_sums_intersection_free(kc_sums_intersection *intersection) {
 
 kc_status kc_sums_intersection_add(kc_sums_intersection *intersection, const kc_sums *sketch) {
     REFUSE_UNLESS(intersection != NULL && sketch != NULL);
-    return kcp_sums_intersection_add(intersection, (kc_sums *)sketch);
+    kc_sums sketch_reader = *sketch;
+    return kcp_sums_intersection_add(intersection, &sketch_reader);
 }
 
 kc_status kc_sums_intersection_add_compact(kc_sums_intersection *intersection, const kc_compact_sums *sketch) {
     REFUSE_UNLESS(intersection != NULL && sketch != NULL);
-    return kcp_sums_intersection_add_compact(intersection, (kc_compact_sums *)sketch);
+    kc_compact_sums sketch_reader = *sketch;
+    return kcp_sums_intersection_add_compact(intersection, &sketch_reader);
 }
 
 kc_status kc_sums_intersection_add_image(kc_sums_intersection *intersection, const void *image, size_t count) {
@@ -477,13 +511,16 @@ kc_status kc_sums_intersection_add_image(kc_sums_intersection *intersection, con
 
 kc_status kc_sums_intersection_result(const kc_sums_intersection *intersection, kc_compact_sums *out) {
     REFUSE_UNLESS(intersection != NULL && out != NULL);
-    return kcp_sums_intersection_result((kc_sums_intersection *)intersection, out);
+    kc_sums_intersection intersection_reader = *intersection;
+    return kcp_sums_intersection_result(&intersection_reader, out);
 }
 
 kc_status kc_sums_difference(const kc_compact_sums *first, const kc_compact_sums *second, uint64_t seed,
                              kc_compact_sums *out) {
-    REFUSE_UNLESS(first != NULL && second != NULL && first != second && out != NULL && first != out && second != out);
-    return kcp_sums_difference((kc_compact_sums *)first, (kc_compact_sums *)second, seed, out);
+    REFUSE_UNLESS(first != NULL && second != NULL && out != NULL && first != out && second != out);
+    kc_compact_sums first_reader = *first;
+    kc_compact_sums second_reader = *second;
+    return kcp_sums_difference(&first_reader, &second_reader, seed, out);
 }
 
 /* ---- Hashes ---- */

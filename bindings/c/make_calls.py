@@ -5,7 +5,7 @@ bindings/c/calls.c, and the list of names in packaging/debian/libkaftanclay0.sym
     make_calls.py --check    compares the four files with the sources, and fails if one differs
     make_calls.py --write    writes those that differ
 
-All that is read of the exports: their signatures, their clauses, and their doc comments. CONTRIBUTING.md has the few rules that these
+All that is read of the exports: their signatures and their doc comments. CONTRIBUTING.md has the few rules that these
 follow ("Add a call of the C library"). What a source breaks of them is an error, which names the file.
 """
 import os
@@ -18,6 +18,7 @@ TOP = os.path.join(os.path.dirname(os.path.abspath(__file__)), "..", "..")
 EXPORTS = "crates/c_library/src"
 STATUSES = "crates/c_objects/src/status.rt"
 STRUCTS = ("crates/c_handles/src/handles.rt", "crates/c_objects/src/state.rt", "crates/c_objects/src/bounds.rt")
+READERS = "crates/c_handles/src/readers.rt"
 # The numbers that C has by name, each with the file of its constant and the constant's name there.
 NUMBERS = {"DEFAULT_SEED": ("crates/sketch_base/src/seed.rt", "DEFAULT_UPDATE_SEED"), "MAX_THETA": ("crates/core_laws/src/lib.rt", "MAX_THETA")}
 HEADER, PROVED, CALLS = "include/kaftanclay.h", "bindings/c/proved.h", "bindings/c/calls.c"
@@ -132,7 +133,6 @@ class Struct:
 class Parameter:
     name: str
     type: str
-    is_kept: bool = False  # a clause says that the object behind the handle is as it was
 
 
 @dataclass
@@ -195,6 +195,16 @@ def structs(comments):
     return found
 
 
+def readers(known):
+    """The handles of readers, by the names of the readers in Rattle."""
+    found = {}
+    for it in re.finditer(r"(?ms)^pub struct (\w+)Reader \{\n(.*?)^\}", text_of(READERS)):
+        if it[1] + "Handle" not in known or not re.match(r"    at: \*const Opaque,\n(    (pub )?ghost [^\n]*\n)*\Z", it[2]):
+            stop(READERS, f"{it[1]}Reader is not one pointer to an Opaque, as {it[1]}Handle is")
+        found[it[1] + "Reader"] = known[it[1] + "Handle"]
+    return found
+
+
 def modules():
     """The modules of the exports in the order of lib.rt, each with the heading in front of it: a comment of a line above `mod`, up
     to a colon, behind which it says which of these calls the module has."""
@@ -236,8 +246,7 @@ def exports(module, comments):
             name, _, kind = (word.strip() for word in part.partition(":"))
             if name in RESERVED - set(RENAMED):
                 stop(place, f"C or C++ reserves the word {name}: give the parameter another name")
-            is_kept = re.search(rf"ensures (?:\w+ )?{{ {name}\.new\.value ≡ {name}\.old\.value }}", it[4]) is not None
-            parameters.append(Parameter(name, kind, is_kept))
+            parameters.append(Parameter(name, kind))
         comment = comments.of_c(place, joined(lines_above(text, it.start())), [p.name for p in parameters])
         if not re.fullmatch(r"[A-Z].*\.", comment):
             stop(place, "it has no doc comment of sentences, which is what the header says of the call")
@@ -264,6 +273,7 @@ class Call:
     arguments: list = field(default_factory=list)
     outputs: list = field(default_factory=list)   # buffers, as pairs of name and type
     pointers: list = field(default_factory=list)  # the others: their names, their types, and whether they are written
+    readers: list = field(default_factory=list)   # handles that are read, as pairs of name and type
     written: str = ""                             # the output that has the result of an export that returns no status
 
     def add_number(self, kind, name):
@@ -292,14 +302,24 @@ class Call:
         if is_last:
             self.declared.append("size_t room")
 
-    def add_pointer(self, kind, name, is_mutable, is_kept):
-        """A pointer to a number, a struct or a handle; C may pass a const one if nothing behind it is written, or if it is a handle
-        whose object is kept."""
-        self.declared.append(f"{'' if is_mutable and not is_kept else 'const '}{kind} *{name}")
+    def add_pointer(self, kind, name, is_mutable):
+        """A pointer to a number, a struct or a handle; C may pass a const one if nothing behind it is written."""
+        self.declared.append(f"{'' if is_mutable else 'const '}{kind} *{name}")
         self.proved.append(f"{'' if is_mutable else 'const '}{kind} *{name}")
+        self.test_pointer(kind, name, is_mutable)
+        self.arguments.append(name)
+
+    def add_reader(self, kind, name):
+        """A handle that is read: the export gets a copy of its pointer, which no other call has."""
+        self.declared.append(f"const {kind} *{name}")
+        self.proved.append(f"{kind} *{name}")
+        self.test_pointer(kind, name, False)
+        self.readers.append((name, kind))
+        self.arguments.append(f"&{name}_reader")
+
+    def test_pointer(self, kind, name, is_mutable):
         self.tests.append(f"{name} != NULL")
         self.tests += [f"{other} != {name}" for other, other_kind, was_mutable in self.pointers if other_kind == kind and (was_mutable or is_mutable)]
-        self.arguments.append(f"({kind} *){name}" if is_mutable and is_kept else name)
         self.pointers.append((name, kind, is_mutable))
 
     def add_result(self, name):
@@ -308,7 +328,7 @@ class Call:
         self.tests.append(f"{name} != NULL")
 
 
-def call_of(export, known):
+def call_of(export, known, reading):
     """The call of an export; it ends with an error if the export has a type that C has no name for."""
     if export.result not in RESULTS:
         stop(export.place, f"it returns {export.result}; an export returns nothing, u32 for a status, or u64")
@@ -327,12 +347,14 @@ def call_of(export, known):
             call.add_output(SCALARS[buffer[2]], name, after is None or after.type != it.type)
         elif buffer:
             call.add_input(SCALARS[buffer[2]], name, "count" if len(inputs) == 1 else f"{name}_count")
-        elif struct and struct.is_handle and not pointer[1]:
-            stop(export.place, f"it takes {it.name} by &; a handle is taken by &mut, with a clause that its object is as it was")
+        elif pointer and not pointer[1] and (pointer[2] in reading or struct and struct.is_handle):
+            stop(export.place, f"it takes {it.name} by &; a handle is taken by &mut, and one that is read as a Reader, by &mut")
+        elif pointer and pointer[2] in reading:
+            call.add_reader(reading[pointer[2]].name, name)
         elif struct:
-            call.add_pointer(struct.name, name, bool(pointer[1]), struct.is_handle and it.is_kept)
+            call.add_pointer(struct.name, name, bool(pointer[1]))
         elif pointer and pointer[2] in SCALARS:
-            call.add_pointer(SCALARS[pointer[2]], name, bool(pointer[1]), False)
+            call.add_pointer(SCALARS[pointer[2]], name, bool(pointer[1]))
         else:
             stop(export.place, f"its parameter {it.name} has a type that C has no name for: {it.type}")
     if export.result == "u64":
@@ -397,7 +419,8 @@ def header(paragraphs, all_statuses, known, sections, version):
 
 def proved(sections):
     out = ["/* The exports of the proved library: what calls.c calls. No pointer is null, no two handles are one variable. A slice of",
-           " * Rattle is a pointer and a count; a Global takes no argument. Made by make_calls.py. */",
+           " * Rattle is a pointer and a count; a Global takes no argument. A handle that is read is a copy of the caller's, which no",
+           " * other call has. Made by make_calls.py. */",
            "#ifndef KAFTANCLAY_PROVED_H", "#define KAFTANCLAY_PROVED_H", '#include "kaftanclay.h"']
     for _, calls in sections:
         out.append("")
@@ -410,8 +433,8 @@ CALLS_HEAD = """\
  * the proved export of its name with the prefix kcp_. Nothing else is done here. Made by make_calls.py from the exports of
  * crates/c_library: change those.
  *
- * A handle is const if the contract of the export says that its object is as it was. The export takes it by &mut all the same,
- * which needs the cast, and which is why two calls at once must not read one handle. */
+ * A handle is const if the export only reads its object. The export gets a reader, a copy of the handle that this call alone has;
+ * by its contract the object is lent to as many readers as there are, so calls at once may read one handle. */
 #include "proved.h"
 
 """
@@ -446,6 +469,7 @@ def body(call):
     out = [declaration("kc_status", call.name, call.declared) + " {"]
     if call.tests:
         out += wrapped(f"REFUSE_UNLESS({' && '.join(call.tests)});", "    ", " " * 18)
+    out += [f"    {kind} {name}_reader = *{name};" for name, kind in call.readers]
     made = f"{export}({', '.join(call.arguments)});"
     if call.result == "kc_status":
         out.append(f"    return {made}")
@@ -480,10 +504,11 @@ def made():
     comments.statuses = {name for name, _, _ in all_statuses}
     all_statuses = [(name, value, comments.of_c(STATUSES, meaning)) for name, value, meaning in all_statuses]
     known = structs(comments)
+    reading = readers(known)
     version = text_of("VERSION").strip()
     sections = []
     for heading, module in modules():
-        found = [call_of(it, known) for it in exports(module, comments)]
+        found = [call_of(it, known, reading) for it in exports(module, comments)]
         if not sections or sections[-1][0] != heading:
             sections.append((heading, []))
         sections[-1][1].extend(found)

@@ -1,5 +1,6 @@
 /* The exports of the proved library: what calls.c calls. No pointer is null, no two handles are one variable. A slice of
- * Rattle is a pointer and a count; a Global takes no argument. Made by make_calls.py. */
+ * Rattle is a pointer and a count; a Global takes no argument. A handle that is read is a copy of the caller's, which no
+ * other call has. Made by make_calls.py. */
 #ifndef KAFTANCLAY_PROVED_H
 #define KAFTANCLAY_PROVED_H
 #include "kaftanclay.h"

@@ -184,7 +184,9 @@ static void operators(void) {
     /* the hash of seed 50541 is 0: it is refused by itself, and no image is of this seed */
     WANT(kc_difference(&ca, &cb, 50541, &r) == KC_INVALID_ARGUMENT && r.object == NULL);
     WANT(kc_images_difference(a_image, a_length, a_image, a_length, 50541, out, sizeof out, &left) == KC_INVALID_DATA);
-    WANT(kc_difference(&ca, &ca, SEED, &r) == KC_INVALID_ARGUMENT && kc_difference(&ca, &no_compact, SEED, &r) == KC_INVALID_ARGUMENT);
+    WANT(kc_difference(&ca, &r, SEED, &r) == KC_INVALID_ARGUMENT && kc_difference(&r, &ca, SEED, &r) == KC_INVALID_ARGUMENT);
+    WANT(kc_difference(&ca, &ca, SEED, &r) == KC_OK && state_of(&r).retained == 0 && kc_compact_free(&r) == KC_OK);
+    WANT(kc_difference(&ca, &no_compact, SEED, &r) == KC_INVALID_ARGUMENT);
     WANT(kc_difference(&no_compact, &ca, SEED, &r) == KC_INVALID_ARGUMENT && ca.object != NULL);
     kc_theta_free(&a), kc_theta_free(&b), kc_theta_free(&other), kc_compact_free(&ca), kc_compact_free(&cb);
 }
@@ -443,7 +445,8 @@ static void sums_intersections(void) {
     WANT(sum_of(&r, 1000) == 0 && kc_compact_sums_free(&r) == KC_OK);
     WANT(kc_sums_difference(&cb, &ca, SEED, &r) == KC_OK && sum_of(&r, 999) == 0 && sum_of(&r, 1999) == 0 && sum_of(&r, 2000) == 2000 && kc_compact_sums_free(&r) == KC_OK);
     WANT(kc_sums_difference(&ca, &cb, SEED + 1, &r) == KC_INVALID_ARGUMENT && kc_sums_difference(&ca, &cb, 50541, &r) == KC_INVALID_ARGUMENT && r.object == NULL);
-    WANT(kc_sums_difference(&ca, &ca, SEED, &r) == KC_INVALID_ARGUMENT && kc_sums_difference(&ca, &r, SEED, &r) == KC_INVALID_ARGUMENT && kc_sums_difference(&r, &ca, SEED, &r) == KC_INVALID_ARGUMENT);
+    WANT(kc_sums_difference(&ca, &r, SEED, &r) == KC_INVALID_ARGUMENT && kc_sums_difference(&r, &ca, SEED, &r) == KC_INVALID_ARGUMENT);
+    WANT(kc_sums_difference(&ca, &ca, SEED, &r) == KC_OK && sum_of(&r, 999) == 0 && kc_compact_sums_free(&r) == KC_OK);
     WANT(kc_sums_difference(&ca, &no_compact, SEED, &r) == KC_INVALID_ARGUMENT && kc_sums_difference(&no_compact, &ca, SEED, &r) == KC_INVALID_ARGUMENT && r.object == NULL);
     WANT(kc_sums_difference(NULL, &ca, SEED, &r) == KC_INVALID_ARGUMENT && kc_sums_difference(&ca, NULL, SEED, &r) == KC_INVALID_ARGUMENT && kc_sums_difference(&ca, &cb, SEED, NULL) == KC_INVALID_ARGUMENT);
     kc_sums_free(&a), kc_sums_free(&b), kc_sums_free(&other), kc_sums_free(&empty), kc_compact_sums_free(&ca), kc_compact_sums_free(&cb);

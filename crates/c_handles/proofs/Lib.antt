@@ -1,2 +1,4 @@
 mod Lending
+mod Loans
+mod Reading
 mod Values

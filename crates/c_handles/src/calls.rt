@@ -7,6 +7,7 @@ ghost use Rattle.c_objects.specs.Buffer.{WritesOf};
 ghost use Rattle.c_objects.specs.Status.{IsMemoryRefusal};
 
 use crate::owned::Owned;
+use crate::reader::Reader;
 use c_objects::bounds::Wide;
 use c_objects::buffer::put_made;
 use c_objects::objects::{
@@ -17,12 +18,11 @@ use c_objects::state::State;
 use c_objects::status::{INVALID_ARGUMENT, OK};
 use std::alloc::Global;
 
-impl<T: HasState> Owned<T> {
+impl<T: HasState> Reader<T> {
     /// Writes the state of the object.
-    pub fn state(&mut self, out: &mut State) -> u32
-        ensures state { WritesValue (option_map T.shown self.old.value) out.old result out.new }
+    pub fn state(&self, out: &mut State) -> u32
+        ensures state { WritesValue (option_map T.shown self.now.value) out.old result out.new }
         ensures usable { result ≡ 0 → is_state out.new.retained out.new.theta ≡ true }
-        ensures unchanged { self.new.value ≡ self.old.value }
     {
         match self.get() {
             Some(object) => {
@@ -34,11 +34,10 @@ impl<T: HasState> Owned<T> {
     }
 }
 
-impl<T: HasTotal> Owned<T> {
+impl<T: HasTotal> Reader<T> {
     /// Writes the sum of all sums of the sketch.
-    pub fn total(&mut self, out: &mut Wide) -> u32
-        ensures total { WritesValue (option_map (λ s. wide (T.total_sum s)) self.old.value) out.old result out.new }
-        ensures unchanged { self.new.value ≡ self.old.value }
+    pub fn total(&self, out: &mut Wide) -> u32
+        ensures total { WritesValue (option_map (λ s. wide (T.total_sum s)) self.now.value) out.old result out.new }
     {
         match self.get() {
             Some(sketch) => {
@@ -50,11 +49,10 @@ impl<T: HasTotal> Owned<T> {
     }
 }
 
-impl<T: HasImage> Owned<T> {
+impl<T: HasImage> Reader<T> {
     /// Writes the image of the object to the front of a buffer, and its length.
-    pub fn image(&mut self, out: &mut [u8], length: &mut u64) -> u32
-        ensures image { WritesOf T.is_image T.no_image self.old.value out.old length.old result out.new length.new }
-        ensures unchanged { self.new.value ≡ self.old.value }
+    pub fn image(&self, out: &mut [u8], length: &mut u64) -> u32
+        ensures image { WritesOf T.is_image T.no_image self.now.value out.old length.old result out.new length.new }
     {
         match self.get() {
             Some(object) => put_made(object.image(), out, length),
@@ -63,11 +61,10 @@ impl<T: HasImage> Owned<T> {
     }
 }
 
-impl<T: HasCompact> Owned<T> {
+impl<T: HasCompact> Reader<T> {
     /// Puts the compact sketch of the object into another pointer.
-    pub fn compact(&mut self, alloc: Global, out: &mut Owned<T::Compact>) -> u32
-        ensures made { FillsFrom T.is_compact T.no_compact self.old.value out.old.value result out.new.value }
-        ensures unchanged { self.new.value ≡ self.old.value }
+    pub fn compact(&self, alloc: Global, out: &mut Owned<T::Compact>) -> u32
+        ensures made { FillsFrom T.is_compact T.no_compact self.now.value out.old.value result out.new.value }
     {
         match self.get() {
             Some(object) => out.put_or(alloc, object.compact()),
@@ -76,11 +73,10 @@ impl<T: HasCompact> Owned<T> {
     }
 }
 
-impl<T: CanCopy> Owned<T> {
+impl<T: CanCopy> Reader<T> {
     /// Puts a copy of the object into another pointer.
-    pub fn copy(&mut self, alloc: Global, out: &mut Owned<T>) -> u32
-        ensures copied { FillsFrom T.is_copy (λ _. IsMemoryRefusal) self.old.value out.old.value result out.new.value }
-        ensures unchanged { self.new.value ≡ self.old.value }
+    pub fn copy(&self, alloc: Global, out: &mut Owned<T>) -> u32
+        ensures copied { FillsFrom T.is_copy (λ _. IsMemoryRefusal) self.now.value out.old.value result out.new.value }
     {
         match self.get() {
             Some(object) => out.put_or(alloc, object.copy()),
@@ -89,19 +85,11 @@ impl<T: CanCopy> Owned<T> {
     }
 }
 
-impl<T: HasDifference> Owned<T> {
+impl<T: HasDifference> Reader<T> {
     /// Puts the difference of the sketch and that of another pointer into a third pointer.
-    pub fn difference(
-        &mut self,
-        alloc: Global,
-        other: &mut Owned<T>,
-        seed: u64,
-        out: &mut Owned<T>,
-    ) -> u32
+    pub fn difference(&self, alloc: Global, other: &Reader<T>, seed: u64, out: &mut Owned<T>) -> u32
         ensures made { FillsFromTwo (T.are_of_seed seed) T.is_difference (T.no_difference seed)
-            self.old.value other.old.value out.old.value result out.new.value }
-        ensures unchanged { self.new.value ≡ self.old.value }
-        ensures same_other { other.new.value ≡ other.old.value }
+            self.now.value other.now.value out.old.value result out.new.value }
     {
         match self.get() {
             Some(first) => match other.get() {
@@ -139,11 +127,10 @@ impl<T: CanReset> Owned<T> {
 
 impl<T> Owned<T> {
     /// Adds the sketch of another pointer to the inputs of the operator.
-    pub fn add<S>(&mut self, sketch: &mut Owned<S>) -> u32
+    pub fn add<S>(&mut self, sketch: &Reader<S>) -> u32
     where
         T: Accepts<S>,
-        ensures added { OnObjectWith T.adds sketch.old.value self.old.value result self.new.value }
-        ensures unchanged { sketch.new.value ≡ sketch.old.value }
+        ensures { OnObjectWith T.adds sketch.now.value self.old.value result self.new.value }
     {
         match sketch.get() {
             Some(input) => match self.get() {

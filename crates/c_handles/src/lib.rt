@@ -3,8 +3,9 @@
 //!
 //! C keeps each object in a handle (`handles`), a struct of one pointer that is null if the handle has none.
 //! Contracts see a handle as the object that it owns, or none. A handle passes on its pointer with the type of the
-//! object (`owned`). What is done with objects of several kinds is done on that pointer, once for all (`access`,
-//! `calls`).
+//! object (`owned`). A call that only reads an object gets a reader in place of the handle (`readers`), to which the
+//! object is lent by `&`; other readers may have it at the same time. What is done with objects of several kinds is
+//! done on these two pointers, once for all (`access`, `reader`, `calls`).
 #![tactic(auto)]
 
 mod access;
@@ -14,4 +15,7 @@ mod loose;
 mod opaque;
 pub mod owned;
 mod pointers;
+mod read_pointers;
+pub mod reader;
+pub mod readers;
 mod threads;

@@ -13,6 +13,8 @@ use keys_sketches::OpenText;
 
 fn is_send<T: Send>() {}
 
+fn is_sync<T: Sync>() {}
+
 /// Each object may be used by another thread than the one that made it, by one thread at a time: its type is `Send`.
 fn objects_are_send() {
     is_send::<SeededSketch>();
@@ -25,4 +27,17 @@ fn objects_are_send() {
     is_send::<CompactSums>();
     is_send::<SeededSumsUnion>();
     is_send::<SeededSumsIntersection>();
+}
+
+/// Each object that is read may be read by several threads at once: its type is `Sync`.
+fn objects_are_sync() {
+    is_sync::<SeededSketch>();
+    is_sync::<CompactSketch>();
+    is_sync::<SeededBatch>();
+    is_sync::<SeededUnion>();
+    is_sync::<SeededIntersection>();
+    is_sync::<SeededSums>();
+    is_sync::<CompactSums>();
+    is_sync::<SeededSumsUnion>();
+    is_sync::<SeededSumsIntersection>();
 }

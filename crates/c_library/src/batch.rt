@@ -5,7 +5,8 @@ ghost use Rattle.c_objects.specs.Batch.{IsNewBatch, AddsSketch, AddsCompact, Add
 ghost use Rattle.c_objects.specs.Status.{IsMemoryRefusal};
 ghost use Rattle.c_objects.specs.Union.{AddsBatch};
 
-use c_handles::handles::{BatchHandle, CompactHandle, ThetaHandle, UnionHandle};
+use c_handles::handles::{BatchHandle, UnionHandle};
+use c_handles::readers::{BatchReader, CompactReader, ThetaReader};
 use c_objects::batch::new_batch;
 use std::alloc::Global;
 
@@ -34,20 +35,18 @@ pub extern "C" fn kcp_batch_free(alloc: Global, batch: &mut BatchHandle)
 /// Refused with `INVALID_ARGUMENT` if a handle has no object, and with `OUT_OF_MEMORY`; then the batch has the same
 /// sketches as before.
 #[unsafe(no_mangle)]
-pub extern "C" fn kcp_batch_add(batch: &mut BatchHandle, sketch: &mut ThetaHandle) -> u32
-    ensures added { OnObjectWith AddsSketch sketch.old.value batch.old.value result batch.new.value }
-    ensures unchanged { sketch.new.value ≡ sketch.old.value }
+pub extern "C" fn kcp_batch_add(batch: &mut BatchHandle, sketch: &mut ThetaReader) -> u32
+    ensures { OnObjectWith AddsSketch sketch.old.value batch.old.value result batch.new.value }
 {
-    batch.owned().add(sketch.owned())
+    batch.owned().add(sketch.reader())
 }
 
 /// Puts a copy of a compact sketch into a batch, as `kcp_batch_add` does.
 #[unsafe(no_mangle)]
-pub extern "C" fn kcp_batch_add_compact(batch: &mut BatchHandle, sketch: &mut CompactHandle) -> u32
-    ensures added { OnObjectWith AddsCompact sketch.old.value batch.old.value result batch.new.value }
-    ensures unchanged { sketch.new.value ≡ sketch.old.value }
+pub extern "C" fn kcp_batch_add_compact(batch: &mut BatchHandle, sketch: &mut CompactReader) -> u32
+    ensures { OnObjectWith AddsCompact sketch.old.value batch.old.value result batch.new.value }
 {
-    batch.owned().add(sketch.owned())
+    batch.owned().add(sketch.reader())
 }
 
 /// Puts the sketch that the bytes begin with into a batch, read under the batch's seed.
@@ -77,9 +76,8 @@ pub extern "C" fn kcp_batch_reset(batch: &mut BatchHandle) -> u32
 /// `OUT_OF_MEMORY`: if memory runs out in the merge, the union has failed until it is reset; if it runs out before,
 /// none is merged and nothing has changed.
 #[unsafe(no_mangle)]
-pub extern "C" fn kcp_union_add_batch(union: &mut UnionHandle, batch: &mut BatchHandle) -> u32
-    ensures added { OnObjectWith AddsBatch batch.old.value union.old.value result union.new.value }
-    ensures unchanged { batch.new.value ≡ batch.old.value }
+pub extern "C" fn kcp_union_add_batch(union: &mut UnionHandle, batch: &mut BatchReader) -> u32
+    ensures { OnObjectWith AddsBatch batch.old.value union.old.value result union.new.value }
 {
-    union.owned().add(batch.owned())
+    union.owned().add(batch.reader())
 }

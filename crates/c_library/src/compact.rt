@@ -7,6 +7,7 @@ ghost use Rattle.c_objects.specs.Status.{IsMemoryRefusal};
 ghost use Rattle.c_objects.specs.Thetas.{compact_state, IsCompactImage, IsCopy, IsReadFrom, IsReadRefusal};
 
 use c_handles::handles::CompactHandle;
+use c_handles::readers::CompactReader;
 use c_objects::state::State;
 use std::alloc::Global;
 
@@ -39,35 +40,32 @@ pub extern "C" fn kcp_compact_free(alloc: Global, sketch: &mut CompactHandle)
 #[unsafe(no_mangle)]
 pub extern "C" fn kcp_compact_clone(
     alloc: Global,
-    sketch: &mut CompactHandle,
+    sketch: &mut CompactReader,
     out: &mut CompactHandle,
 ) -> u32
-    ensures copied { FillsFrom IsCopy (λ _. IsMemoryRefusal) sketch.old.value out.old.value result out.new.value }
-    ensures unchanged { sketch.new.value ≡ sketch.old.value }
+    ensures { FillsFrom IsCopy (λ _. IsMemoryRefusal) sketch.old.value out.old.value result out.new.value }
 {
-    sketch.owned().copy(alloc, out.owned())
+    sketch.reader().copy(alloc, out.owned())
 }
 
 /// Writes the sketch's state, as `kcp_theta_state` does.
 #[unsafe(no_mangle)]
-pub extern "C" fn kcp_compact_state(sketch: &mut CompactHandle, out: &mut State) -> u32
+pub extern "C" fn kcp_compact_state(sketch: &mut CompactReader, out: &mut State) -> u32
     ensures state { WritesValue (option_map compact_state sketch.old.value) out.old result out.new }
     ensures usable { result ≡ 0 → is_state out.new.retained out.new.theta ≡ true }
-    ensures unchanged { sketch.new.value ≡ sketch.old.value }
 {
-    sketch.owned().state(out)
+    sketch.reader().state(out)
 }
 
 /// Writes the sketch's image, in the DataSketches format. Refused with `OUT_OF_MEMORY`.
 #[unsafe(no_mangle)]
 pub extern "C" fn kcp_compact_image(
-    sketch: &mut CompactHandle,
+    sketch: &mut CompactReader,
     out: &mut [u8],
     length: &mut u64,
 ) -> u32
-    ensures image { WritesOf IsCompactImage (λ _. IsMemoryRefusal) sketch.old.value out.old length.old result
+    ensures { WritesOf IsCompactImage (λ _. IsMemoryRefusal) sketch.old.value out.old length.old result
         out.new length.new }
-    ensures unchanged { sketch.new.value ≡ sketch.old.value }
 {
-    sketch.owned().image(out, length)
+    sketch.reader().image(out, length)
 }

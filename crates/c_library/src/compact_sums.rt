@@ -8,6 +8,7 @@ ghost use Rattle.c_objects.specs.CompactSums.{IsCompactSumsImage, compact_total,
 ghost use Rattle.c_objects.specs.Status.{IsMemoryRefusal};
 
 use c_handles::handles::CompactSumsHandle;
+use c_handles::readers::CompactSumsReader;
 use c_objects::bounds::Wide;
 use c_objects::compact_sums::put_entries;
 use c_objects::state::State;
@@ -38,26 +39,24 @@ pub extern "C" fn kcp_compact_sums_free(alloc: Global, sums: &mut CompactSumsHan
 
 /// Writes the sketch's state, as `kcp_theta_state` does.
 #[unsafe(no_mangle)]
-pub extern "C" fn kcp_compact_sums_state(sums: &mut CompactSumsHandle, out: &mut State) -> u32
+pub extern "C" fn kcp_compact_sums_state(sums: &mut CompactSumsReader, out: &mut State) -> u32
     ensures state { WritesValue (option_map compact_sums_state sums.old.value) out.old result out.new }
     ensures usable { result ≡ 0 → is_state out.new.retained out.new.theta ≡ true }
-    ensures unchanged { sums.new.value ≡ sums.old.value }
 {
-    sums.owned().state(out)
+    sums.reader().state(out)
 }
 
 /// Writes the sketch's image, as `kcp_sums_image` does.
 #[unsafe(no_mangle)]
 pub extern "C" fn kcp_compact_sums_image(
-    sums: &mut CompactSumsHandle,
+    sums: &mut CompactSumsReader,
     out: &mut [u8],
     length: &mut u64,
 ) -> u32
-    ensures image { WritesOf IsCompactSumsImage (λ _. IsMemoryRefusal) sums.old.value out.old length.old result
+    ensures { WritesOf IsCompactSumsImage (λ _. IsMemoryRefusal) sums.old.value out.old length.old result
         out.new length.new }
-    ensures unchanged { sums.new.value ≡ sums.old.value }
 {
-    sums.owned().image(out, length)
+    sums.reader().image(out, length)
 }
 
 /// Writes the hashes of the sketch and their sums, in the order of the image, to two arrays of `room` numbers each,
@@ -66,16 +65,15 @@ pub extern "C" fn kcp_compact_sums_image(
 /// If room is less, the status is `TOO_SMALL`, the arrays are as before, and `*count` is the room that is needed.
 #[unsafe(no_mangle)]
 pub extern "C" fn kcp_compact_sums_entries(
-    sums: &mut CompactSumsHandle,
+    sums: &mut CompactSumsReader,
     hashes: &mut [u64],
     values: &mut [u64],
     count: &mut u64,
 ) -> u32
-    ensures entries { CopiesEntries sums.old.value hashes.old values.old count.old result hashes.new values.new
+    ensures { CopiesEntries sums.old.value hashes.old values.old count.old result hashes.new values.new
         count.new }
-    ensures unchanged { sums.new.value ≡ sums.old.value }
 {
-    match sums.owned().get() {
+    match sums.reader().get() {
         Some(object) => put_entries(object, hashes, values, count),
         None => INVALID_ARGUMENT,
     }
@@ -83,9 +81,8 @@ pub extern "C" fn kcp_compact_sums_entries(
 
 /// Writes the total of a sketch, as `kcp_sums_total` does.
 #[unsafe(no_mangle)]
-pub extern "C" fn kcp_compact_sums_total(sums: &mut CompactSumsHandle, out: &mut Wide) -> u32
-    ensures total { WritesValue (option_map (λ s. wide (compact_total s)) sums.old.value) out.old result out.new }
-    ensures unchanged { sums.new.value ≡ sums.old.value }
+pub extern "C" fn kcp_compact_sums_total(sums: &mut CompactSumsReader, out: &mut Wide) -> u32
+    ensures { WritesValue (option_map (λ s. wide (compact_total s)) sums.old.value) out.old result out.new }
 {
-    sums.owned().total(out)
+    sums.reader().total(out)
 }

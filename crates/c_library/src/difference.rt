@@ -4,6 +4,7 @@ ghost use Rattle.c_handles.specs.Calls.{FillsFromTwo};
 ghost use Rattle.c_objects.specs.Intersection.{AreOfSeed, IsDifferenceOf, IsDifferenceRefusal};
 
 use c_handles::handles::CompactHandle;
+use c_handles::readers::CompactReader;
 use std::alloc::Global;
 
 /// Makes the difference of two sketches, as an ordered compact sketch: the hashes of the first that the second lacks,
@@ -15,17 +16,15 @@ use std::alloc::Global;
 #[unsafe(no_mangle)]
 pub extern "C" fn kcp_difference(
     alloc: Global,
-    first: &mut CompactHandle,
-    second: &mut CompactHandle,
+    first: &mut CompactReader,
+    second: &mut CompactReader,
     seed: u64,
     out: &mut CompactHandle,
 ) -> u32
-    ensures made { FillsFromTwo (AreOfSeed seed) IsDifferenceOf (IsDifferenceRefusal seed)
+    ensures { FillsFromTwo (AreOfSeed seed) IsDifferenceOf (IsDifferenceRefusal seed)
         first.old.value second.old.value out.old.value result out.new.value }
-    ensures same_first { first.new.value ≡ first.old.value }
-    ensures same_second { second.new.value ≡ second.old.value }
 {
     first
-        .owned()
-        .difference(alloc, second.owned(), seed, out.owned())
+        .reader()
+        .difference(alloc, second.reader(), seed, out.owned())
 }

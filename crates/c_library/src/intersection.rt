@@ -5,7 +5,8 @@ ghost use Rattle.c_objects.specs.Intersection.{IsNewIntersection, MeetsShown, Is
 ghost use Rattle.c_objects.specs.Intersection.{IsNoResult};
 ghost use Rattle.c_objects.specs.Thetas.{OfSketch, OfCompact, OfImage};
 
-use c_handles::handles::{CompactHandle, IntersectionHandle, ThetaHandle};
+use c_handles::handles::{CompactHandle, IntersectionHandle};
+use c_handles::readers::{CompactReader, IntersectionReader, ThetaReader};
 use c_objects::intersection::build;
 use std::alloc::Global;
 
@@ -38,26 +39,24 @@ pub extern "C" fn kcp_intersection_free(alloc: Global, intersection: &mut Inters
 #[unsafe(no_mangle)]
 pub extern "C" fn kcp_intersection_add(
     intersection: &mut IntersectionHandle,
-    sketch: &mut ThetaHandle,
+    sketch: &mut ThetaReader,
 ) -> u32
-    ensures met { OnObjectWith (OfSketch MeetsShown) sketch.old.value intersection.old.value result
+    ensures { OnObjectWith (OfSketch MeetsShown) sketch.old.value intersection.old.value result
         intersection.new.value }
-    ensures unchanged { sketch.new.value ≡ sketch.old.value }
 {
-    intersection.owned().add(sketch.owned())
+    intersection.owned().add(sketch.reader())
 }
 
 /// Intersects with a compact sketch, as `kcp_intersection_add` does.
 #[unsafe(no_mangle)]
 pub extern "C" fn kcp_intersection_add_compact(
     intersection: &mut IntersectionHandle,
-    sketch: &mut CompactHandle,
+    sketch: &mut CompactReader,
 ) -> u32
-    ensures met { OnObjectWith (OfCompact MeetsShown) sketch.old.value intersection.old.value result
+    ensures { OnObjectWith (OfCompact MeetsShown) sketch.old.value intersection.old.value result
         intersection.new.value }
-    ensures unchanged { sketch.new.value ≡ sketch.old.value }
 {
-    intersection.owned().add(sketch.owned())
+    intersection.owned().add(sketch.reader())
 }
 
 /// Intersects with the sketch that the bytes begin with, read under the intersection's seed, as
@@ -82,11 +81,10 @@ pub extern "C" fn kcp_intersection_add_image(
 #[unsafe(no_mangle)]
 pub extern "C" fn kcp_intersection_result(
     alloc: Global,
-    intersection: &mut IntersectionHandle,
+    intersection: &mut IntersectionReader,
     out: &mut CompactHandle,
 ) -> u32
-    ensures made { FillsFrom IsIntersectionResult IsNoResult intersection.old.value out.old.value result out.new.value }
-    ensures unchanged { intersection.new.value ≡ intersection.old.value }
+    ensures { FillsFrom IsIntersectionResult IsNoResult intersection.old.value out.old.value result out.new.value }
 {
-    intersection.owned().compact(alloc, out.owned())
+    intersection.reader().compact(alloc, out.owned())
 }

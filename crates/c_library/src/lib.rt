@@ -7,8 +7,8 @@
 //! Handles. An object is kept in a handle, a variable of one of the types below that have it as their only member.
 //! Begin each with {0}, which has no object. A call that makes an object puts it into such a handle, and is refused
 //! with `INVALID_ARGUMENT` if the handle has one already. The free calls take the object out again, so freeing twice
-//! does nothing. Don't copy a handle: two copies would own one object. A call that takes a handle as const leaves its
-//! object as it was.
+//! does nothing. Don't copy a handle: two copies would own one object. A call that takes a handle as const only reads
+//! its object.
 //!
 //! Statuses. A call returns `OK`, or the reason why it was refused; `kc_status_text` has the reason in words. A call
 //! that is refused changes nothing, neither an object nor an output, except where its comment says otherwise.
@@ -23,8 +23,9 @@
 //! implementations of the DataSketches format use if no other is passed. The seed of an empty sketch is never
 //! checked.
 //!
-//! Threads. A handle is used by one call at a time, also by calls that take it as const. No two arguments of a call
-//! may overlap, except two buffers of input.
+//! Threads. Calls that take a handle as const may use it at the same time, and one call may take it twice. While a
+//! call runs that takes a handle otherwise, no other uses it. No two arguments of a call may overlap, except those
+//! that are const.
 //!
 //! # In Rattle
 //!

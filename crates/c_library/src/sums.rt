@@ -10,6 +10,7 @@ ghost use Rattle.c_objects.specs.Sums.{IsNewSums, IsSameSums, AddsValue, AddsAtB
 ghost use Rattle.c_objects.specs.Sums.{ResetsSums, sums_state, sums_total, IsImageOfSums, IsCompactFormOfSums};
 
 use c_handles::handles::{CompactSumsHandle, SumsHandle};
+use c_handles::readers::SumsReader;
 use c_objects::bounds::Wide;
 use c_objects::settings::factor_of;
 use c_objects::state::State;
@@ -49,11 +50,10 @@ pub extern "C" fn kcp_sums_new_with(
 
 /// Copies a sketch, with its sums, its theta and settings, into another handle. Refused with `OUT_OF_MEMORY`.
 #[unsafe(no_mangle)]
-pub extern "C" fn kcp_sums_clone(alloc: Global, sums: &mut SumsHandle, out: &mut SumsHandle) -> u32
-    ensures copied { FillsFrom IsSameSums (λ _. IsMemoryRefusal) sums.old.value out.old.value result out.new.value }
-    ensures unchanged { sums.new.value ≡ sums.old.value }
+pub extern "C" fn kcp_sums_clone(alloc: Global, sums: &mut SumsReader, out: &mut SumsHandle) -> u32
+    ensures { FillsFrom IsSameSums (λ _. IsMemoryRefusal) sums.old.value out.old.value result out.new.value }
 {
-    sums.owned().copy(alloc, out.owned())
+    sums.reader().copy(alloc, out.owned())
 }
 
 /// Frees the sketch of a handle, if it has one.
@@ -118,46 +118,42 @@ pub extern "C" fn kcp_sums_reset(sums: &mut SumsHandle) -> u32
 
 /// Writes the sketch's state, as `kcp_theta_state` does.
 #[unsafe(no_mangle)]
-pub extern "C" fn kcp_sums_state(sums: &mut SumsHandle, out: &mut State) -> u32
+pub extern "C" fn kcp_sums_state(sums: &mut SumsReader, out: &mut State) -> u32
     ensures state { WritesValue (option_map sums_state sums.old.value) out.old result out.new }
     ensures usable { result ≡ 0 → is_state out.new.retained out.new.theta ≡ true }
-    ensures unchanged { sums.new.value ≡ sums.old.value }
 {
-    sums.owned().state(out)
+    sums.reader().state(out)
 }
 
 /// Writes the image of the sketch's ordered compact form: after each hash the eight bytes of its sum, the lowest
 /// first. Refused with `OUT_OF_MEMORY`.
 #[unsafe(no_mangle)]
-pub extern "C" fn kcp_sums_image(sums: &mut SumsHandle, out: &mut [u8], length: &mut u64) -> u32
-    ensures image { WritesOf IsImageOfSums (λ _. IsMemoryRefusal) sums.old.value out.old length.old result out.new
+pub extern "C" fn kcp_sums_image(sums: &mut SumsReader, out: &mut [u8], length: &mut u64) -> u32
+    ensures { WritesOf IsImageOfSums (λ _. IsMemoryRefusal) sums.old.value out.old length.old result out.new
         length.new }
-    ensures unchanged { sums.new.value ≡ sums.old.value }
 {
-    sums.owned().image(out, length)
+    sums.reader().image(out, length)
 }
 
 /// Makes the sketch's ordered compact form, of the same value, untrimmed. Refused with `OUT_OF_MEMORY`.
 #[unsafe(no_mangle)]
 pub extern "C" fn kcp_sums_compact(
     alloc: Global,
-    sums: &mut SumsHandle,
+    sums: &mut SumsReader,
     out: &mut CompactSumsHandle,
 ) -> u32
-    ensures made { FillsFrom IsCompactFormOfSums (λ _. IsMemoryRefusal) sums.old.value out.old.value result
+    ensures { FillsFrom IsCompactFormOfSums (λ _. IsMemoryRefusal) sums.old.value out.old.value result
         out.new.value }
-    ensures unchanged { sums.new.value ≡ sums.old.value }
 {
-    sums.owned().compact(alloc, out.owned())
+    sums.reader().compact(alloc, out.owned())
 }
 
 /// Writes the total of a sketch, the sum of its sums, below 2^96. The estimate of the total of all values that were
 /// added is this total * `MAX_THETA` / theta (`kc_total`, `kcp_total_decimal`, `kcp_total_rounded`,
 /// `kcp_total_text`).
 #[unsafe(no_mangle)]
-pub extern "C" fn kcp_sums_total(sums: &mut SumsHandle, out: &mut Wide) -> u32
-    ensures total { WritesValue (option_map (λ t. wide (sums_total t)) sums.old.value) out.old result out.new }
-    ensures unchanged { sums.new.value ≡ sums.old.value }
+pub extern "C" fn kcp_sums_total(sums: &mut SumsReader, out: &mut Wide) -> u32
+    ensures { WritesValue (option_map (λ t. wide (sums_total t)) sums.old.value) out.old result out.new }
 {
-    sums.owned().total(out)
+    sums.reader().total(out)
 }

@@ -6,7 +6,8 @@ ghost use Rattle.c_objects.specs.Intersection.{IsSeedRefusal};
 ghost use Rattle.c_objects.specs.SumsIntersection.{IsNewSumsIntersection, MeetsShownSums, IsSumsIntersectionResult};
 ghost use Rattle.c_objects.specs.SumsIntersection.{IsNoSumsResult};
 
-use c_handles::handles::{CompactSumsHandle, SumsHandle, SumsIntersectionHandle};
+use c_handles::handles::{CompactSumsHandle, SumsIntersectionHandle};
+use c_handles::readers::{CompactSumsReader, SumsIntersectionReader, SumsReader};
 use c_objects::sums_intersection::build;
 use std::alloc::Global;
 
@@ -42,26 +43,24 @@ pub extern "C" fn kcp_sums_intersection_free(
 #[unsafe(no_mangle)]
 pub extern "C" fn kcp_sums_intersection_add(
     intersection: &mut SumsIntersectionHandle,
-    sketch: &mut SumsHandle,
+    sketch: &mut SumsReader,
 ) -> u32
-    ensures met { OnObjectWith (OfSums MeetsShownSums) sketch.old.value intersection.old.value result
+    ensures { OnObjectWith (OfSums MeetsShownSums) sketch.old.value intersection.old.value result
         intersection.new.value }
-    ensures unchanged { sketch.new.value ≡ sketch.old.value }
 {
-    intersection.owned().add(sketch.owned())
+    intersection.owned().add(sketch.reader())
 }
 
 /// Intersects with a compact sketch, as `kcp_sums_intersection_add` does.
 #[unsafe(no_mangle)]
 pub extern "C" fn kcp_sums_intersection_add_compact(
     intersection: &mut SumsIntersectionHandle,
-    sketch: &mut CompactSumsHandle,
+    sketch: &mut CompactSumsReader,
 ) -> u32
-    ensures met { OnObjectWith (OfCompactSums MeetsShownSums) sketch.old.value intersection.old.value result
+    ensures { OnObjectWith (OfCompactSums MeetsShownSums) sketch.old.value intersection.old.value result
         intersection.new.value }
-    ensures unchanged { sketch.new.value ≡ sketch.old.value }
 {
-    intersection.owned().add(sketch.owned())
+    intersection.owned().add(sketch.reader())
 }
 
 /// Intersects with the sketch that the bytes begin with, as `kcp_intersection_add_image` does. Refused as that call
@@ -83,12 +82,11 @@ pub extern "C" fn kcp_sums_intersection_add_image(
 #[unsafe(no_mangle)]
 pub extern "C" fn kcp_sums_intersection_result(
     alloc: Global,
-    intersection: &mut SumsIntersectionHandle,
+    intersection: &mut SumsIntersectionReader,
     out: &mut CompactSumsHandle,
 ) -> u32
-    ensures made { FillsFrom IsSumsIntersectionResult IsNoSumsResult intersection.old.value out.old.value result
+    ensures { FillsFrom IsSumsIntersectionResult IsNoSumsResult intersection.old.value out.old.value result
         out.new.value }
-    ensures unchanged { intersection.new.value ≡ intersection.old.value }
 {
-    intersection.owned().compact(alloc, out.owned())
+    intersection.reader().compact(alloc, out.owned())
 }

@@ -7,7 +7,8 @@ ghost use Rattle.c_objects.specs.Settings.{IsSettingsRefusal};
 ghost use Rattle.c_objects.specs.SumsUnion.{IsNewSumsUnion, AddsShownSums, IsSumsUnionResult, IsSumsUnionImage};
 ghost use Rattle.c_objects.specs.SumsUnion.{IsSumsResultRefusal, ResetsSumsUnion};
 
-use c_handles::handles::{CompactSumsHandle, SumsHandle, SumsUnionHandle};
+use c_handles::handles::{CompactSumsHandle, SumsUnionHandle};
+use c_handles::readers::{CompactSumsReader, SumsReader, SumsUnionReader};
 use c_objects::sums_union::build;
 use std::alloc::Global;
 
@@ -38,23 +39,21 @@ pub extern "C" fn kcp_sums_union_free(alloc: Global, union: &mut SumsUnionHandle
 /// Refused as that call is; and with `POLICY` if the sums of one hash are 2^64 or more together, after which the
 /// union has failed until it is reset.
 #[unsafe(no_mangle)]
-pub extern "C" fn kcp_sums_union_add(union: &mut SumsUnionHandle, sketch: &mut SumsHandle) -> u32
-    ensures added { OnObjectWith (OfSums AddsShownSums) sketch.old.value union.old.value result union.new.value }
-    ensures unchanged { sketch.new.value ≡ sketch.old.value }
+pub extern "C" fn kcp_sums_union_add(union: &mut SumsUnionHandle, sketch: &mut SumsReader) -> u32
+    ensures { OnObjectWith (OfSums AddsShownSums) sketch.old.value union.old.value result union.new.value }
 {
-    union.owned().add(sketch.owned())
+    union.owned().add(sketch.reader())
 }
 
 /// Merges a compact sketch into the union, as `kcp_sums_union_add` does.
 #[unsafe(no_mangle)]
 pub extern "C" fn kcp_sums_union_add_compact(
     union: &mut SumsUnionHandle,
-    sketch: &mut CompactSumsHandle,
+    sketch: &mut CompactSumsReader,
 ) -> u32
-    ensures added { OnObjectWith (OfCompactSums AddsShownSums) sketch.old.value union.old.value result union.new.value }
-    ensures unchanged { sketch.new.value ≡ sketch.old.value }
+    ensures { OnObjectWith (OfCompactSums AddsShownSums) sketch.old.value union.old.value result union.new.value }
 {
-    union.owned().add(sketch.owned())
+    union.owned().add(sketch.reader())
 }
 
 /// Merges the sketch that the bytes begin with, as `kcp_union_add_image` does. Refused as that call and
@@ -75,27 +74,25 @@ pub extern "C" fn kcp_sums_union_add_image(
 #[unsafe(no_mangle)]
 pub extern "C" fn kcp_sums_union_result(
     alloc: Global,
-    union: &mut SumsUnionHandle,
+    union: &mut SumsUnionReader,
     out: &mut CompactSumsHandle,
 ) -> u32
-    ensures made { FillsFrom IsSumsUnionResult IsSumsResultRefusal union.old.value out.old.value result out.new.value }
-    ensures unchanged { union.new.value ≡ union.old.value }
+    ensures { FillsFrom IsSumsUnionResult IsSumsResultRefusal union.old.value out.old.value result out.new.value }
 {
-    union.owned().compact(alloc, out.owned())
+    union.reader().compact(alloc, out.owned())
 }
 
 /// Writes the image of that sketch, refused as `kcp_sums_union_result` is.
 #[unsafe(no_mangle)]
 pub extern "C" fn kcp_sums_union_image(
-    union: &mut SumsUnionHandle,
+    union: &mut SumsUnionReader,
     out: &mut [u8],
     length: &mut u64,
 ) -> u32
-    ensures image { WritesOf IsSumsUnionImage IsSumsResultRefusal union.old.value out.old length.old result out.new
+    ensures { WritesOf IsSumsUnionImage IsSumsResultRefusal union.old.value out.old length.old result out.new
         length.new }
-    ensures unchanged { union.new.value ≡ union.old.value }
 {
-    union.owned().image(out, length)
+    union.reader().image(out, length)
 }
 
 /// Makes the union empty again, as when it was new, and ends a failure.

@@ -10,6 +10,7 @@ ghost use Rattle.c_objects.specs.Thetas.{IsNewSketch, IsSameSketch, UpdatesHash,
 ghost use Rattle.c_objects.specs.Thetas.{UpdatesHashes, Trims, Resets, theta_state, IsImageOf, IsCompactForm};
 
 use c_handles::handles::{CompactHandle, ThetaHandle};
+use c_handles::readers::ThetaReader;
 use c_objects::settings::factor_of;
 use c_objects::state::State;
 use c_objects::status::INVALID_ARGUMENT;
@@ -58,13 +59,12 @@ pub extern "C" fn kcp_theta_new_with(
 #[unsafe(no_mangle)]
 pub extern "C" fn kcp_theta_clone(
     alloc: Global,
-    sketch: &mut ThetaHandle,
+    sketch: &mut ThetaReader,
     out: &mut ThetaHandle,
 ) -> u32
-    ensures copied { FillsFrom IsSameSketch (λ _. IsMemoryRefusal) sketch.old.value out.old.value result out.new.value }
-    ensures unchanged { sketch.new.value ≡ sketch.old.value }
+    ensures { FillsFrom IsSameSketch (λ _. IsMemoryRefusal) sketch.old.value out.old.value result out.new.value }
 {
-    sketch.owned().copy(alloc, out.owned())
+    sketch.reader().copy(alloc, out.owned())
 }
 
 /// Frees the sketch of a handle, if it has one.
@@ -147,33 +147,30 @@ pub extern "C" fn kcp_theta_reset(sketch: &mut ThetaHandle) -> u32
 
 /// Writes the sketch's state: how many hashes it retains, its theta, and whether it is empty.
 #[unsafe(no_mangle)]
-pub extern "C" fn kcp_theta_state(sketch: &mut ThetaHandle, out: &mut State) -> u32
+pub extern "C" fn kcp_theta_state(sketch: &mut ThetaReader, out: &mut State) -> u32
     ensures state { WritesValue (option_map theta_state sketch.old.value) out.old result out.new }
     ensures usable { result ≡ 0 → is_state out.new.retained out.new.theta ≡ true }
-    ensures unchanged { sketch.new.value ≡ sketch.old.value }
 {
-    sketch.owned().state(out)
+    sketch.reader().state(out)
 }
 
 /// Writes the image of the sketch's ordered compact form, in the DataSketches format. Refused with `OUT_OF_MEMORY`.
 #[unsafe(no_mangle)]
-pub extern "C" fn kcp_theta_image(sketch: &mut ThetaHandle, out: &mut [u8], length: &mut u64) -> u32
-    ensures image { WritesOf IsImageOf (λ _. IsMemoryRefusal) sketch.old.value out.old length.old result out.new
+pub extern "C" fn kcp_theta_image(sketch: &mut ThetaReader, out: &mut [u8], length: &mut u64) -> u32
+    ensures { WritesOf IsImageOf (λ _. IsMemoryRefusal) sketch.old.value out.old length.old result out.new
         length.new }
-    ensures unchanged { sketch.new.value ≡ sketch.old.value }
 {
-    sketch.owned().image(out, length)
+    sketch.reader().image(out, length)
 }
 
 /// Makes the sketch's ordered compact form, of the same value, untrimmed. Refused with `OUT_OF_MEMORY`.
 #[unsafe(no_mangle)]
 pub extern "C" fn kcp_theta_compact(
     alloc: Global,
-    sketch: &mut ThetaHandle,
+    sketch: &mut ThetaReader,
     out: &mut CompactHandle,
 ) -> u32
-    ensures made { FillsFrom IsCompactForm (λ _. IsMemoryRefusal) sketch.old.value out.old.value result out.new.value }
-    ensures unchanged { sketch.new.value ≡ sketch.old.value }
+    ensures { FillsFrom IsCompactForm (λ _. IsMemoryRefusal) sketch.old.value out.old.value result out.new.value }
 {
-    sketch.owned().compact(alloc, out.owned())
+    sketch.reader().compact(alloc, out.owned())
 }

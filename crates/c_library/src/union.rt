@@ -7,7 +7,8 @@ ghost use Rattle.c_objects.specs.Thetas.{OfCompact, OfImage};
 ghost use Rattle.c_objects.specs.Union.{IsNewUnion, AddsShown, AddsUpdatable, IsUnionResult, IsUnionImage};
 ghost use Rattle.c_objects.specs.Union.{IsResultRefusal, ResetsUnion};
 
-use c_handles::handles::{CompactHandle, ThetaHandle, UnionHandle};
+use c_handles::handles::{CompactHandle, UnionHandle};
+use c_handles::readers::{CompactReader, ThetaReader, UnionReader};
 use c_objects::union::build;
 use std::alloc::Global;
 
@@ -35,20 +36,18 @@ pub extern "C" fn kcp_union_free(alloc: Global, union: &mut UnionHandle)
 /// Refused with `INVALID_ARGUMENT` for a sketch of another seed, and with `FAILED` if the union has failed, whatever
 /// the sketch; then nothing has changed. Refused with `OUT_OF_MEMORY`; then the union has failed until it is reset.
 #[unsafe(no_mangle)]
-pub extern "C" fn kcp_union_add(union: &mut UnionHandle, sketch: &mut ThetaHandle) -> u32
-    ensures added { OnObjectWith AddsUpdatable sketch.old.value union.old.value result union.new.value }
-    ensures unchanged { sketch.new.value ≡ sketch.old.value }
+pub extern "C" fn kcp_union_add(union: &mut UnionHandle, sketch: &mut ThetaReader) -> u32
+    ensures { OnObjectWith AddsUpdatable sketch.old.value union.old.value result union.new.value }
 {
-    union.owned().add(sketch.owned())
+    union.owned().add(sketch.reader())
 }
 
 /// Merges a compact sketch into the union, as `kcp_union_add` does.
 #[unsafe(no_mangle)]
-pub extern "C" fn kcp_union_add_compact(union: &mut UnionHandle, sketch: &mut CompactHandle) -> u32
-    ensures added { OnObjectWith (OfCompact AddsShown) sketch.old.value union.old.value result union.new.value }
-    ensures unchanged { sketch.new.value ≡ sketch.old.value }
+pub extern "C" fn kcp_union_add_compact(union: &mut UnionHandle, sketch: &mut CompactReader) -> u32
+    ensures { OnObjectWith (OfCompact AddsShown) sketch.old.value union.old.value result union.new.value }
 {
-    union.owned().add(sketch.owned())
+    union.owned().add(sketch.reader())
 }
 
 /// Merges the sketch that the bytes begin with, read under the union's seed, as `kcp_union_add` does.
@@ -67,22 +66,20 @@ pub extern "C" fn kcp_union_add_image(alloc: Global, union: &mut UnionHandle, im
 #[unsafe(no_mangle)]
 pub extern "C" fn kcp_union_result(
     alloc: Global,
-    union: &mut UnionHandle,
+    union: &mut UnionReader,
     out: &mut CompactHandle,
 ) -> u32
-    ensures made { FillsFrom IsUnionResult IsResultRefusal union.old.value out.old.value result out.new.value }
-    ensures unchanged { union.new.value ≡ union.old.value }
+    ensures { FillsFrom IsUnionResult IsResultRefusal union.old.value out.old.value result out.new.value }
 {
-    union.owned().compact(alloc, out.owned())
+    union.reader().compact(alloc, out.owned())
 }
 
 /// Writes the image of that sketch, refused as `kcp_union_result` is.
 #[unsafe(no_mangle)]
-pub extern "C" fn kcp_union_image(union: &mut UnionHandle, out: &mut [u8], length: &mut u64) -> u32
-    ensures image { WritesOf IsUnionImage IsResultRefusal union.old.value out.old length.old result out.new length.new }
-    ensures unchanged { union.new.value ≡ union.old.value }
+pub extern "C" fn kcp_union_image(union: &mut UnionReader, out: &mut [u8], length: &mut u64) -> u32
+    ensures { WritesOf IsUnionImage IsResultRefusal union.old.value out.old length.old result out.new length.new }
 {
-    union.owned().image(out, length)
+    union.reader().image(out, length)
 }
 
 /// Makes the union empty again, as when it was new, and ends a failure.
