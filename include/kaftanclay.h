@@ -47,7 +47,8 @@ enum {
     KC_INVALID_DATA = 2,     /* the bytes begin with no sketch of this seed */
     KC_OUT_OF_MEMORY = 3,    /* the memory that the call requested was refused */
     KC_POLICY = 4,           /* a sum would be 2^64 or more */
-    KC_FAILED = 5,           /* memory or a sum was refused in an earlier merge; the union refuses until it is reset */
+    KC_FAILED = 5,           /* memory or a sum was refused in an earlier merge; the union refuses all sketches until it
+                              * is reset */
     KC_TOO_SMALL = 6         /* the buffer is too small; *length is the room that is needed */
 };
 
@@ -357,29 +358,31 @@ kc_status kc_hash_u64(uint64_t seed, uint64_t number, uint64_t *hash);
  * theta. */
 kc_status kc_estimate_numerator(uint64_t retained, kc_wide *out);
 /* Writes the estimate of a state rounded down to `places` decimals, from 0 to 19: its whole part, and the decimals as
- * one number below 10^`places`. Refused with KC_INVALID_ARGUMENT if no sketch has such a state or there are more
- * decimals. */
+ * one number below 10^`places`. Refused with KC_INVALID_ARGUMENT unless `retained` is below 2^32, theta is from 1 to
+ * KC_MAX_THETA and `places` is at most 19. Other states that no sketch has are not refused. */
 kc_status kc_estimate_decimal(uint64_t retained, uint64_t theta, uint32_t places, kc_wide *whole, uint64_t *decimals);
 /* Writes the estimate of a state as text with `places` decimals, rounded down and without a final 0 byte: at most 49
  * bytes. Refused as kc_estimate_decimal is. */
 kc_status kc_estimate_text(const kc_state *state, uint32_t places, char *text, size_t room, uint64_t *length);
-/* Writes the nearest whole number to the estimate of a state; a half is rounded up. Refused with KC_INVALID_ARGUMENT if
- * no sketch has such a state. */
+/* Writes the nearest whole number to the estimate of a state; a half is rounded up. Refused with KC_INVALID_ARGUMENT
+ * unless `retained` is below 2^32 and theta from 1 to KC_MAX_THETA. */
 kc_status kc_estimate_rounded(uint64_t retained, uint64_t theta, kc_wide *out);
 /* Writes bounds of the number of distinct values by 1, 2 or 3 standard deviations: the ends of the Wilson score
  * interval, rounded outwards. If hashes are random, the number is within them in about 68, 95 or 99.7 of 100 sketches;
- * that isn't proved. Refused with KC_INVALID_ARGUMENT if no sketch has such a state or `deviations` isn't 1, 2 or 3. */
+ * that isn't proved. Refused with KC_INVALID_ARGUMENT unless `retained` is below 2^32, theta is from 1 to KC_MAX_THETA,
+ * and `deviations` is 1, 2 or 3. */
 kc_status kc_count_bounds(uint64_t retained, uint64_t theta, uint32_t deviations, kc_wide *lower, kc_wide *upper);
 /* Writes the estimate of the total of all values, total * KC_MAX_THETA / theta, rounded down to `places` decimals, as
- * kc_estimate_decimal writes an estimate; theta is that of the sketch's state. Refused with KC_INVALID_ARGUMENT if no
- * sketch has such a total and theta (the total isn't below 2^64 * theta) or there are more decimals. */
+ * kc_estimate_decimal writes an estimate; theta is that of the sketch's state. Refused with KC_INVALID_ARGUMENT unless
+ * theta is from 1 to KC_MAX_THETA, the total is below 2^64 * theta, as that of every sketch is, and `places` is at most
+ * 19. */
 kc_status kc_total_decimal(const kc_wide *total, uint64_t theta, uint32_t places, kc_wide *whole, uint64_t *decimals);
 /* Writes the estimate of the total of all values as text with `places` decimals, rounded down and without a final 0
  * byte: at most 59 bytes. Refused as kc_total_decimal is. */
 kc_status kc_total_text(const kc_wide *total, uint64_t theta, uint32_t places, char *text, size_t room,
                         uint64_t *length);
 /* Writes the nearest whole number to the estimate of the total of all values; a half is rounded up. Refused with
- * KC_INVALID_ARGUMENT if no sketch has such a total and theta. */
+ * KC_INVALID_ARGUMENT unless theta is from 1 to KC_MAX_THETA and the total below 2^64 * theta. */
 kc_status kc_total_rounded(const kc_wide *total, uint64_t theta, kc_wide *out);
 /* Writes a number of 128 bits as text, without a final 0 byte: at most 39 bytes. */
 kc_status kc_wide_text(const kc_wide *number, char *text, size_t room, uint64_t *length);

@@ -595,7 +595,7 @@ const char *kc_status_text(kc_status status) {
     case KC_INVALID_DATA: return "the bytes begin with no sketch of this seed";
     case KC_OUT_OF_MEMORY: return "the memory that the call requested was refused";
     case KC_POLICY: return "a sum would be 2^64 or more";
-    case KC_FAILED: return "memory or a sum was refused in an earlier merge; the union refuses until it is reset";
+    case KC_FAILED: return "memory or a sum was refused in an earlier merge; the union refuses all sketches until it is reset";
     case KC_TOO_SMALL: return "the buffer is too small; *length is the room that is needed";
     default: return "a number that is no status of this library";
     }

@@ -22,7 +22,8 @@ pub extern "C" fn kcp_estimate_numerator(retained: u64, out: &mut Wide)
 /// Writes the estimate of a state rounded down to `places` decimals, from 0 to 19: its whole part, and the decimals
 /// as one number below 10^`places`.
 ///
-/// Refused with `INVALID_ARGUMENT` if no sketch has such a state or there are more decimals.
+/// Refused with `INVALID_ARGUMENT` unless `retained` is below 2^32, theta is from 1 to `MAX_THETA` and `places` is at
+/// most 19. Other states that no sketch has are not refused.
 #[unsafe(no_mangle)]
 pub extern "C" fn kcp_estimate_decimal(
     retained: u64,
@@ -56,7 +57,7 @@ pub extern "C" fn kcp_estimate_text(
 }
 
 /// Writes the nearest whole number to the estimate of a state; a half is rounded up. Refused with `INVALID_ARGUMENT`
-/// if no sketch has such a state.
+/// unless `retained` is below 2^32 and theta from 1 to `MAX_THETA`.
 #[unsafe(no_mangle)]
 pub extern "C" fn kcp_estimate_rounded(retained: u64, theta: u64, out: &mut Wide) -> u32
     ensures { WritesNumber (rounded_of (is_state retained theta) (numerator retained, theta)) out.old result out.new }
@@ -68,7 +69,8 @@ pub extern "C" fn kcp_estimate_rounded(retained: u64, theta: u64, out: &mut Wide
 /// interval, rounded outwards. If hashes are random, the number is within them in about 68, 95 or 99.7 of 100
 /// sketches; that isn't proved.
 ///
-/// Refused with `INVALID_ARGUMENT` if no sketch has such a state or `deviations` isn't 1, 2 or 3.
+/// Refused with `INVALID_ARGUMENT` unless `retained` is below 2^32, theta is from 1 to `MAX_THETA`, and `deviations` is
+/// 1, 2 or 3.
 #[unsafe(no_mangle)]
 pub extern "C" fn kcp_count_bounds(
     retained: u64,

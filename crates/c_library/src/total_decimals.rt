@@ -8,8 +8,8 @@ use c_objects::quotients::{put_parts, put_parts_text, put_wide, total_parts, tot
 /// Writes the estimate of the total of all values, total * `MAX_THETA` / theta, rounded down to `places` decimals, as
 /// `kcp_estimate_decimal` writes an estimate; theta is that of the sketch's state.
 ///
-/// Refused with `INVALID_ARGUMENT` if no sketch has such a total and theta (the total isn't below 2^64 * theta) or
-/// there are more decimals.
+/// Refused with `INVALID_ARGUMENT` unless theta is from 1 to `MAX_THETA`, the total is below 2^64 * theta, as that of
+/// every sketch is, and `places` is at most 19.
 #[unsafe(no_mangle)]
 pub extern "C" fn kcp_total_decimal(
     total: &Wide,
@@ -45,7 +45,7 @@ pub extern "C" fn kcp_total_text(
 }
 
 /// Writes the nearest whole number to the estimate of the total of all values; a half is rounded up. Refused with
-/// `INVALID_ARGUMENT` if no sketch has such a total and theta.
+/// `INVALID_ARGUMENT` unless theta is from 1 to `MAX_THETA` and the total below 2^64 * theta.
 #[unsafe(no_mangle)]
 pub extern "C" fn kcp_total_rounded(total: &Wide, theta: u64, out: &mut Wide) -> u32
     ensures { WritesNumber

@@ -21,7 +21,7 @@ pub const OUT_OF_MEMORY: u32 = 3;
 /// A sum would be 2^64 or more.
 pub const POLICY: u32 = 4;
 
-/// Memory or a sum was refused in an earlier merge; the union refuses until it is reset.
+/// Memory or a sum was refused in an earlier merge; the union refuses all sketches until it is reset.
 pub const FAILED: u32 = 5;
 
 /// The buffer is too small; `*length` is the room that is needed.
