@@ -80,12 +80,12 @@ typedef struct {
 
 /* Makes an empty sketch of 2^lg_k nominal entries. Refused with KC_INVALID_ARGUMENT if lg_k isn't from 4 to 26 or the
  * hash of the seed is 0, and with KC_OUT_OF_MEMORY. */
-kc_status kc_theta_new(kc_theta *sketch, uint8_t lg_k, uint64_t seed);
+kc_status kc_theta_new(kc_theta *sketch, uint32_t lg_k, uint64_t seed);
 /* Makes a sketch whose slots grow by a resize factor, 1, 2, 4 or 8 (kc_theta_new takes 8), and that begins at a theta
  * from 1 to KC_MAX_THETA, also after a reset. With the factor 1 it has all of its slots from the start. No value
  * depends on the factor. Refused as kc_theta_new is, and with KC_INVALID_ARGUMENT if the factor or the theta is out of
  * range. */
-kc_status kc_theta_new_with(kc_theta *sketch, uint8_t lg_k, uint64_t seed, uint32_t resize_factor,
+kc_status kc_theta_new_with(kc_theta *sketch, uint32_t lg_k, uint64_t seed, uint32_t resize_factor,
                             uint64_t starting_theta);
 /* Copies a sketch, with its theta and settings, into another handle. Refused with KC_OUT_OF_MEMORY. */
 kc_status kc_theta_clone(const kc_theta *sketch, kc_theta *out);
@@ -115,6 +115,10 @@ kc_status kc_theta_state(const kc_theta *sketch, kc_state *out);
 kc_status kc_theta_image(const kc_theta *sketch, void *out, size_t room, uint64_t *length);
 /* Makes the sketch's ordered compact form, of the same value, untrimmed. Refused with KC_OUT_OF_MEMORY. */
 kc_status kc_theta_compact(const kc_theta *sketch, kc_compact *out);
+/* Writes the sketch's hashes, each once in no particular order, to an array of `room` numbers, and their number to
+ * *count. If room is less, the status is KC_TOO_SMALL, the array is as before, and *count is the room that is
+ * needed. */
+kc_status kc_theta_hashes(const kc_theta *sketch, uint64_t *hashes, size_t room, uint64_t *count);
 /* Updates a sketch with byte strings in their order, each by its hash. They lie one after another in `bytes`, the first
  * from offset 0, and ends[i] is the offset of the end of string i. The call allocates eight bytes per string. Refused
  * with KC_INVALID_ARGUMENT if an end is below the one before it or past the bytes. Refused with KC_OUT_OF_MEMORY; then
@@ -155,12 +159,14 @@ kc_status kc_compact_clone(const kc_compact *sketch, kc_compact *out);
 kc_status kc_compact_state(const kc_compact *sketch, kc_state *out);
 /* Writes the sketch's image, in the DataSketches format. Refused with KC_OUT_OF_MEMORY. */
 kc_status kc_compact_image(const kc_compact *sketch, void *out, size_t room, uint64_t *length);
+/* Writes the sketch's hashes, in the order of its image, as kc_theta_hashes does. */
+kc_status kc_compact_hashes(const kc_compact *sketch, uint64_t *hashes, size_t room, uint64_t *count);
 
 /* ---- Unions ---- */
 
 /* Makes a union of 2^lg_k nominal entries. Its value has the hashes of all its sketches below their least theta; if
  * these are more than k = 2^lg_k, the k least, and its theta is the (k+1)th. Refused as kc_theta_new is. */
-kc_status kc_union_new(kc_union *u, uint8_t lg_k, uint64_t seed);
+kc_status kc_union_new(kc_union *u, uint32_t lg_k, uint64_t seed);
 /* Frees the union of a handle, if it has one. */
 kc_status kc_union_free(kc_union *u);
 /* Merges a sketch that takes updates into the union. An empty sketch changes nothing. Refused with KC_INVALID_ARGUMENT
@@ -170,8 +176,8 @@ kc_status kc_union_add(kc_union *u, const kc_theta *sketch);
 /* Merges a compact sketch into the union, as kc_union_add does. */
 kc_status kc_union_add_compact(kc_union *u, const kc_compact *sketch);
 /* Merges the sketch that the bytes begin with, read under the union's seed, as kc_union_add does. Refused with
- * KC_INVALID_DATA if the bytes begin with no sketch of this seed, and otherwise as kc_union_add is; but if memory runs
- * out while the image is read, nothing has changed. */
+ * KC_INVALID_DATA if the bytes begin with no sketch of this seed, also by a union that has failed, and otherwise as
+ * kc_union_add is; but if memory runs out while the image is read, nothing has changed. */
 kc_status kc_union_add_image(kc_union *u, const void *image, size_t count);
 /* Makes the union's value as an ordered compact sketch. Refused with KC_FAILED if the union has failed, and with
  * KC_OUT_OF_MEMORY. */
@@ -180,6 +186,10 @@ kc_status kc_union_result(const kc_union *u, kc_compact *out);
 kc_status kc_union_image(const kc_union *u, void *out, size_t room, uint64_t *length);
 /* Makes the union empty again, as when it was new, and ends a failure. */
 kc_status kc_union_reset(kc_union *u);
+/* Lowers the union to 2^lg_k nominal entries, lg_k from 4 to its own: its value is cut to those, and later values have
+ * no more, also after a reset. With its own lg_k nothing changes. Refused with KC_FAILED if the union has failed, else
+ * with KC_INVALID_ARGUMENT if lg_k is out of range, and with KC_OUT_OF_MEMORY. */
+kc_status kc_union_lower_lg_k(kc_union *u, uint32_t lg_k);
 
 /* ---- Many sketches at once ---- */
 
@@ -251,9 +261,10 @@ kc_status kc_images_difference(const void *first, size_t first_count, const void
 /* ---- Tuple sketches of sums ---- */
 
 /* Makes an empty sketch, as kc_theta_new does. */
-kc_status kc_sums_new(kc_sums *sums, uint8_t lg_k, uint64_t seed);
+kc_status kc_sums_new(kc_sums *sums, uint32_t lg_k, uint64_t seed);
 /* Makes a sketch with a resize factor and a starting theta, as kc_theta_new_with does. */
-kc_status kc_sums_new_with(kc_sums *sums, uint8_t lg_k, uint64_t seed, uint32_t resize_factor, uint64_t starting_theta);
+kc_status kc_sums_new_with(kc_sums *sums, uint32_t lg_k, uint64_t seed, uint32_t resize_factor,
+                           uint64_t starting_theta);
 /* Copies a sketch, with its sums, its theta and settings, into another handle. Refused with KC_OUT_OF_MEMORY. */
 kc_status kc_sums_clone(const kc_sums *sums, kc_sums *out);
 /* Frees the sketch of a handle, if it has one. */
@@ -280,6 +291,21 @@ kc_status kc_sums_compact(const kc_sums *sums, kc_compact_sums *out);
 /* Writes the total of a sketch, the sum of its sums, below 2^96. The estimate of the total of all values that were
  * added is this total * KC_MAX_THETA / theta (kc_total, kc_total_decimal, kc_total_rounded, kc_total_text). */
 kc_status kc_sums_total(const kc_sums *sums, kc_wide *out);
+/* Writes the hashes of the sketch and their sums, each hash once in no particular order, as kc_compact_sums_entries
+ * does. */
+kc_status kc_sums_entries(const kc_sums *sums, uint64_t *hashes, uint64_t *values, size_t room, uint64_t *count);
+/* Adds many values to the sums of as many hashes in their order, each as kc_sums_add_hash does, and writes how many
+ * were added. Refused as kc_sums_add_hash is, at the first value that call would refuse; then exactly the *added values
+ * before it were added. Refused with KC_INVALID_ARGUMENT if there are more hashes than values, or fewer; then none was
+ * added. */
+kc_status kc_sums_add_hashes(kc_sums *sums, const uint64_t *hashes, size_t hashes_count, const uint64_t *values,
+                             size_t values_count, uint64_t *added);
+/* Adds many values to the sums of as many byte strings in their order, each by its hash as in kc_theta_update_strings,
+ * and writes how many were added. The strings lie one after another in `bytes`, and `ends` has where each ends. Refused
+ * as kc_sums_add_hashes is; and with KC_INVALID_ARGUMENT if an end is below the one before it or past the bytes, and
+ * with KC_OUT_OF_MEMORY if memory for the hashes is refused; then none was added. */
+kc_status kc_sums_add_strings(kc_sums *sums, const void *bytes, size_t bytes_count, const uint64_t *ends,
+                              size_t ends_count, const uint64_t *values, size_t values_count, uint64_t *added);
 
 /* ---- Compact tuple sketches of sums ---- */
 
@@ -287,6 +313,8 @@ kc_status kc_sums_total(const kc_sums *sums, kc_wide *out);
 kc_status kc_compact_sums_read(kc_compact_sums *sums, const void *image, size_t count, uint64_t seed);
 /* Frees the sketch of a handle, if it has one. */
 kc_status kc_compact_sums_free(kc_compact_sums *sums);
+/* Copies a sketch into another handle. Refused with KC_OUT_OF_MEMORY. */
+kc_status kc_compact_sums_clone(const kc_compact_sums *sums, kc_compact_sums *out);
 /* Writes the sketch's state, as kc_theta_state does. */
 kc_status kc_compact_sums_state(const kc_compact_sums *sums, kc_state *out);
 /* Writes the sketch's image, as kc_sums_image does. */
@@ -303,7 +331,10 @@ kc_status kc_compact_sums_total(const kc_compact_sums *sums, kc_wide *out);
 
 /* Makes a union of 2^lg_k nominal entries, refused as kc_theta_new is. Its value is that of a union of theta sketches,
  * and beside each hash the sum of the sums of all sketches. */
-kc_status kc_sums_union_new(kc_sums_union *u, uint8_t lg_k, uint64_t seed);
+kc_status kc_sums_union_new(kc_sums_union *u, uint32_t lg_k, uint64_t seed);
+/* Makes a union with a resize factor and a starting theta, as kc_theta_new_with makes a sketch. */
+kc_status kc_sums_union_new_with(kc_sums_union *u, uint32_t lg_k, uint64_t seed, uint32_t resize_factor,
+                                 uint64_t starting_theta);
 /* Frees the union of a handle, if it has one. */
 kc_status kc_sums_union_free(kc_sums_union *u);
 /* Merges a sketch that takes updates into the union, as kc_union_add does. Refused as that call is; and with KC_POLICY
@@ -321,6 +352,8 @@ kc_status kc_sums_union_result(const kc_sums_union *u, kc_compact_sums *out);
 kc_status kc_sums_union_image(const kc_sums_union *u, void *out, size_t room, uint64_t *length);
 /* Makes the union empty again, as when it was new, and ends a failure. */
 kc_status kc_sums_union_reset(kc_sums_union *u);
+/* Lowers the union to 2^lg_k nominal entries, as kc_union_lower_lg_k does. */
+kc_status kc_sums_union_lower_lg_k(kc_sums_union *u, uint32_t lg_k);
 
 /* ---- Intersections and differences of tuple sketches of sums ---- */
 

@@ -114,9 +114,6 @@ template <class Buffer, class Call> Buffer written(Call call) {
     return out;
 }
 
-/* A number that is too large for the library's type is refused as one that is out of range. */
-inline std::uint8_t narrow(unsigned lg_k) noexcept { return lg_k <= 26 ? static_cast<std::uint8_t>(lg_k) : std::uint8_t{0}; }
-
 } // namespace detail
 
 /* A number of 128 bits as text, and as the nearest double. */
@@ -244,10 +241,10 @@ public:
 /* A sketch that takes updates. */
 class Theta : public detail::Handle<kc_theta, kc_theta_free> {
 public:
-    explicit Theta(unsigned lg_k = default_lg_k, std::uint64_t seed = default_seed) { check(kc_theta_new(get(), detail::narrow(lg_k), seed)); }
+    explicit Theta(unsigned lg_k = default_lg_k, std::uint64_t seed = default_seed) { check(kc_theta_new(get(), lg_k, seed)); }
     /* With a resize factor, 1, 2, 4 or 8, and a theta from 1 to KC_MAX_THETA to begin at. */
     Theta(unsigned lg_k, std::uint64_t seed, std::uint32_t resize_factor, std::uint64_t starting_theta) {
-        check(kc_theta_new_with(get(), detail::narrow(lg_k), seed, resize_factor, starting_theta));
+        check(kc_theta_new_with(get(), lg_k, seed, resize_factor, starting_theta));
     }
     Theta clone() const {
         Theta out{Nothing{}};
@@ -298,7 +295,7 @@ public:
 
 class Union : public detail::Handle<kc_union, kc_union_free> {
 public:
-    explicit Union(unsigned lg_k = default_lg_k, std::uint64_t seed = default_seed) { check(kc_union_new(get(), detail::narrow(lg_k), seed)); }
+    explicit Union(unsigned lg_k = default_lg_k, std::uint64_t seed = default_seed) { check(kc_union_new(get(), lg_k, seed)); }
     void add(const Theta &sketch) { check(kc_union_add(get(), sketch.get())); }
     void add(const Compact &sketch) { check(kc_union_add_compact(get(), sketch.get())); }
     void add(const Batch &batch) { check(kc_union_add_batch(get(), batch.get())); }
@@ -386,9 +383,9 @@ private:
 /* A tuple sketch that takes updates: for each key the sum of its values. */
 class Sums : public detail::Handle<kc_sums, kc_sums_free> {
 public:
-    explicit Sums(unsigned lg_k = default_lg_k, std::uint64_t seed = default_seed) { check(kc_sums_new(get(), detail::narrow(lg_k), seed)); }
+    explicit Sums(unsigned lg_k = default_lg_k, std::uint64_t seed = default_seed) { check(kc_sums_new(get(), lg_k, seed)); }
     Sums(unsigned lg_k, std::uint64_t seed, std::uint32_t resize_factor, std::uint64_t starting_theta) {
-        check(kc_sums_new_with(get(), detail::narrow(lg_k), seed, resize_factor, starting_theta));
+        check(kc_sums_new_with(get(), lg_k, seed, resize_factor, starting_theta));
     }
     Sums clone() const {
         Sums out{Nothing{}};
@@ -428,7 +425,7 @@ private:
 class SumsUnion : public detail::Handle<kc_sums_union, kc_sums_union_free> {
 public:
     explicit SumsUnion(unsigned lg_k = default_lg_k, std::uint64_t seed = default_seed) {
-        check(kc_sums_union_new(get(), detail::narrow(lg_k), seed));
+        check(kc_sums_union_new(get(), lg_k, seed));
     }
     void add(const Sums &sketch) { check(kc_sums_union_add(get(), sketch.get())); }
     void add(const CompactSums &sketch) { check(kc_sums_union_add_compact(get(), sketch.get())); }

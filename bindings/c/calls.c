@@ -37,12 +37,12 @@ static uint64_t nothing[4];
 
 /* ---- Theta sketches that take updates ---- */
 
-kc_status kc_theta_new(kc_theta *sketch, uint8_t lg_k, uint64_t seed) {
+kc_status kc_theta_new(kc_theta *sketch, uint32_t lg_k, uint64_t seed) {
     REFUSE_UNLESS(sketch != NULL);
     return kcp_theta_new(sketch, lg_k, seed);
 }
 
-kc_status kc_theta_new_with(kc_theta *sketch, uint8_t lg_k, uint64_t seed, uint32_t resize_factor,
+kc_status kc_theta_new_with(kc_theta *sketch, uint32_t lg_k, uint64_t seed, uint32_t resize_factor,
                             uint64_t starting_theta) {
     REFUSE_UNLESS(sketch != NULL);
     return kcp_theta_new_with(sketch, lg_k, seed, resize_factor, starting_theta);
@@ -108,6 +108,12 @@ kc_status kc_theta_compact(const kc_theta *sketch, kc_compact *out) {
     return kcp_theta_compact(&sketch_reader, out);
 }
 
+kc_status kc_theta_hashes(const kc_theta *sketch, uint64_t *hashes, size_t room, uint64_t *count) {
+    REFUSE_UNLESS(sketch != NULL && IS_BUFFER(hashes, room) && count != NULL);
+    kc_theta sketch_reader = *sketch;
+    return kcp_theta_hashes(&sketch_reader, NUMBERS(hashes, 0), room, count);
+}
+
 kc_status kc_theta_update_strings(kc_theta *sketch, const void *bytes, size_t bytes_count, const uint64_t *ends,
                                   size_t ends_count) {
     REFUSE_UNLESS(sketch != NULL && IS_BUFFER(bytes, bytes_count) && IS_BUFFER(ends, ends_count));
@@ -168,9 +174,15 @@ kc_status kc_compact_image(const kc_compact *sketch, void *out, size_t room, uin
     return kcp_compact_image(&sketch_reader, OUTPUT(out, 0), room, length);
 }
 
+kc_status kc_compact_hashes(const kc_compact *sketch, uint64_t *hashes, size_t room, uint64_t *count) {
+    REFUSE_UNLESS(sketch != NULL && IS_BUFFER(hashes, room) && count != NULL);
+    kc_compact sketch_reader = *sketch;
+    return kcp_compact_hashes(&sketch_reader, NUMBERS(hashes, 0), room, count);
+}
+
 /* ---- Unions ---- */
 
-kc_status kc_union_new(kc_union *u, uint8_t lg_k, uint64_t seed) {
+kc_status kc_union_new(kc_union *u, uint32_t lg_k, uint64_t seed) {
     REFUSE_UNLESS(u != NULL);
     return kcp_union_new(u, lg_k, seed);
 }
@@ -213,6 +225,11 @@ kc_status kc_union_image(const kc_union *u, void *out, size_t room, uint64_t *le
 kc_status kc_union_reset(kc_union *u) {
     REFUSE_UNLESS(u != NULL);
     return kcp_union_reset(u);
+}
+
+kc_status kc_union_lower_lg_k(kc_union *u, uint32_t lg_k) {
+    REFUSE_UNLESS(u != NULL);
+    return kcp_union_lower_lg_k(u, lg_k);
 }
 
 /* ---- Many sketches at once ---- */
@@ -322,12 +339,13 @@ kc_status kc_images_difference(const void *first, size_t first_count, const void
 
 /* ---- Tuple sketches of sums ---- */
 
-kc_status kc_sums_new(kc_sums *sums, uint8_t lg_k, uint64_t seed) {
+kc_status kc_sums_new(kc_sums *sums, uint32_t lg_k, uint64_t seed) {
     REFUSE_UNLESS(sums != NULL);
     return kcp_sums_new(sums, lg_k, seed);
 }
 
-kc_status kc_sums_new_with(kc_sums *sums, uint8_t lg_k, uint64_t seed, uint32_t resize_factor, uint64_t starting_theta) {
+kc_status kc_sums_new_with(kc_sums *sums, uint32_t lg_k, uint64_t seed, uint32_t resize_factor,
+                           uint64_t starting_theta) {
     REFUSE_UNLESS(sums != NULL);
     return kcp_sums_new_with(sums, lg_k, seed, resize_factor, starting_theta);
 }
@@ -393,6 +411,26 @@ kc_status kc_sums_total(const kc_sums *sums, kc_wide *out) {
     return kcp_sums_total(&sums_reader, out);
 }
 
+kc_status kc_sums_entries(const kc_sums *sums, uint64_t *hashes, uint64_t *values, size_t room, uint64_t *count) {
+    REFUSE_UNLESS(sums != NULL && IS_BUFFER(hashes, room) && IS_BUFFER(values, room) && (room == 0 || hashes != values)
+                  && count != NULL);
+    kc_sums sums_reader = *sums;
+    return kcp_sums_entries(&sums_reader, NUMBERS(hashes, 0), room, NUMBERS(values, 1), room, count);
+}
+
+kc_status kc_sums_add_hashes(kc_sums *sums, const uint64_t *hashes, size_t hashes_count, const uint64_t *values,
+                             size_t values_count, uint64_t *added) {
+    REFUSE_UNLESS(sums != NULL && IS_BUFFER(hashes, hashes_count) && IS_BUFFER(values, values_count) && added != NULL);
+    return kcp_sums_add_hashes(sums, NUMBERS(hashes, 0), hashes_count, NUMBERS(values, 0), values_count, added);
+}
+
+kc_status kc_sums_add_strings(kc_sums *sums, const void *bytes, size_t bytes_count, const uint64_t *ends,
+                              size_t ends_count, const uint64_t *values, size_t values_count, uint64_t *added) {
+    REFUSE_UNLESS(sums != NULL && IS_BUFFER(bytes, bytes_count) && IS_BUFFER(ends, ends_count) && IS_BUFFER(values,
+                  values_count) && added != NULL);
+    return kcp_sums_add_strings(sums, INPUT(bytes), bytes_count, NUMBERS(ends, 0), ends_count, NUMBERS(values, 0), values_count, added);
+}
+
 /* ---- Compact tuple sketches of sums ---- */
 
 kc_status kc_compact_sums_read(kc_compact_sums *sums, const void *image, size_t count, uint64_t seed) {
@@ -404,6 +442,12 @@ kc_status kc_compact_sums_free(kc_compact_sums *sums) {
     REFUSE_UNLESS(sums != NULL);
     kcp_compact_sums_free(sums);
     return KC_OK;
+}
+
+kc_status kc_compact_sums_clone(const kc_compact_sums *sums, kc_compact_sums *out) {
+    REFUSE_UNLESS(sums != NULL && out != NULL && sums != out);
+    kc_compact_sums sums_reader = *sums;
+    return kcp_compact_sums_clone(&sums_reader, out);
 }
 
 kc_status kc_compact_sums_state(const kc_compact_sums *sums, kc_state *out) {
@@ -434,9 +478,15 @@ kc_status kc_compact_sums_total(const kc_compact_sums *sums, kc_wide *out) {
 
 /* ---- Unions of tuple sketches of sums ---- */
 
-kc_status kc_sums_union_new(kc_sums_union *u, uint8_t lg_k, uint64_t seed) {
+kc_status kc_sums_union_new(kc_sums_union *u, uint32_t lg_k, uint64_t seed) {
     REFUSE_UNLESS(u != NULL);
     return kcp_sums_union_new(u, lg_k, seed);
+}
+
+kc_status kc_sums_union_new_with(kc_sums_union *u, uint32_t lg_k, uint64_t seed, uint32_t resize_factor,
+                                 uint64_t starting_theta) {
+    REFUSE_UNLESS(u != NULL);
+    return kcp_sums_union_new_with(u, lg_k, seed, resize_factor, starting_theta);
 }
 
 kc_status kc_sums_union_free(kc_sums_union *u) {
@@ -477,6 +527,11 @@ kc_status kc_sums_union_image(const kc_sums_union *u, void *out, size_t room, ui
 kc_status kc_sums_union_reset(kc_sums_union *u) {
     REFUSE_UNLESS(u != NULL);
     return kcp_sums_union_reset(u);
+}
+
+kc_status kc_sums_union_lower_lg_k(kc_sums_union *u, uint32_t lg_k) {
+    REFUSE_UNLESS(u != NULL);
+    return kcp_sums_union_lower_lg_k(u, lg_k);
 }
 
 /* ---- Intersections and differences of tuple sketches of sums ---- */

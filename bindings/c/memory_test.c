@@ -369,6 +369,40 @@ static void sums_of_kind(int kind) {
     kc_sums_free(&m), kc_compact_sums_free(&c), kc_compact_sums_free(&d);
 }
 
+/* Whether a sketch of sums has the first of these hashes, with 1 each. */
+static int has_first_sums(const kc_sums *sketch, const uint64_t *hashes, uint64_t count) {
+    kc_sums other = {0};
+    kc_state wanted, at;
+    uint64_t length = 0, other_length = 0;
+    int found = 0;
+    UNREFUSED(
+        WANT(kc_sums_new(&other, LG_K, SEED) == KC_OK);
+        for (uint64_t n = 0; n < count; n++) WANT(kc_sums_add_hash(&other, hashes[n], 1) == KC_OK);
+        WANT(kc_sums_state(sketch, &wanted) == KC_OK && kc_sums_state(&other, &at) == KC_OK && kc_sums_image(sketch, first, BYTES, &length) == KC_OK);
+        found = same(&at, &wanted) && kc_sums_image(&other, second, BYTES, &other_length) == KC_OK && is_image(length, second, other_length);
+        kc_sums_free(&other));
+    return found;
+}
+
+/* Many values at a call: exactly those before a refused one were added. */
+static void many_values(void) {
+    static uint64_t ones[MOST];
+    kc_sums m = {0};
+    uint64_t added = 7, more = 7;
+    for (size_t n = 0; n < MOST; n++) ones[n] = 1;
+    kc_status status = CALL(sums_new, &m, LG_K, SEED);
+    WANT(MAKES(status, m));
+    if (m.object != NULL) {
+        status = CALL(sums_add_hashes, &m, of_numbers, updates, ones, updates, &added);
+        WANT(IS(status) && (status == KC_OK ? added == updates : added < updates) && has_first_sums(&m, of_numbers, added));
+        WANT(kc_sums_add_hashes(&m, of_numbers + added, updates - added, ones, updates - added, &more) == KC_OK && more == updates - added);
+        WANT(has_first_sums(&m, of_numbers, updates) && kc_sums_reset(&m) == KC_OK);
+        status = CALL(sums_add_strings, &m, text, ends[updates - 1], ends, updates, ones, updates, &added);
+        WANT(IS(status) && (status == KC_OK ? added == updates : added < updates) && has_first_sums(&m, of_strings, added));
+        WANT(kc_sums_free(&m) == KC_OK);
+    }
+}
+
 static void sums(void) {
     for (int kind = 0; kind < 3; kind++) sums_of_kind(kind);
 }
@@ -452,7 +486,7 @@ static void prepare(void) {
 }
 
 int main(int count, char **words) {
-    void (*const parts[])(void) = {updates_one_by_one, many_updates, lines, copies_and_images, operators, batches, sums, operators_on_sums};
+    void (*const parts[])(void) = {updates_one_by_one, many_updates, lines, copies_and_images, operators, batches, sums, many_values, operators_on_sums};
     long requests = 0;
     updates = count > 1 && strcmp(words[1], "short") == 0 ? 1500 : MOST;
     prepare();

@@ -5,8 +5,8 @@
 #define KAFTANCLAY_PROVED_H
 #include "kaftanclay.h"
 
-kc_status kcp_theta_new(kc_theta *sketch, uint8_t lg_k, uint64_t seed);
-kc_status kcp_theta_new_with(kc_theta *sketch, uint8_t lg_k, uint64_t seed, uint32_t resize_factor,
+kc_status kcp_theta_new(kc_theta *sketch, uint32_t lg_k, uint64_t seed);
+kc_status kcp_theta_new_with(kc_theta *sketch, uint32_t lg_k, uint64_t seed, uint32_t resize_factor,
                              uint64_t starting_theta);
 kc_status kcp_theta_clone(kc_theta *sketch, kc_theta *out);
 void kcp_theta_free(kc_theta *sketch);
@@ -19,6 +19,7 @@ kc_status kcp_theta_reset(kc_theta *sketch);
 kc_status kcp_theta_state(kc_theta *sketch, kc_state *out);
 kc_status kcp_theta_image(kc_theta *sketch, uint8_t *out, size_t out_room, uint64_t *length);
 kc_status kcp_theta_compact(kc_theta *sketch, kc_compact *out);
+kc_status kcp_theta_hashes(kc_theta *sketch, uint64_t *hashes, size_t hashes_room, uint64_t *count);
 kc_status kcp_theta_update_strings(kc_theta *sketch, const uint8_t *bytes, size_t bytes_count, const uint64_t *ends,
                                    size_t ends_count);
 
@@ -32,8 +33,9 @@ void kcp_compact_free(kc_compact *sketch);
 kc_status kcp_compact_clone(kc_compact *sketch, kc_compact *out);
 kc_status kcp_compact_state(kc_compact *sketch, kc_state *out);
 kc_status kcp_compact_image(kc_compact *sketch, uint8_t *out, size_t out_room, uint64_t *length);
+kc_status kcp_compact_hashes(kc_compact *sketch, uint64_t *hashes, size_t hashes_room, uint64_t *count);
 
-kc_status kcp_union_new(kc_union *u, uint8_t lg_k, uint64_t seed);
+kc_status kcp_union_new(kc_union *u, uint32_t lg_k, uint64_t seed);
 void kcp_union_free(kc_union *u);
 kc_status kcp_union_add(kc_union *u, kc_theta *sketch);
 kc_status kcp_union_add_compact(kc_union *u, kc_compact *sketch);
@@ -41,6 +43,7 @@ kc_status kcp_union_add_image(kc_union *u, const uint8_t *image, size_t count);
 kc_status kcp_union_result(kc_union *u, kc_compact *out);
 kc_status kcp_union_image(kc_union *u, uint8_t *out, size_t out_room, uint64_t *length);
 kc_status kcp_union_reset(kc_union *u);
+kc_status kcp_union_lower_lg_k(kc_union *u, uint32_t lg_k);
 
 kc_status kcp_batch_new(kc_batch *batch, uint64_t seed);
 void kcp_batch_free(kc_batch *batch);
@@ -64,8 +67,8 @@ kc_status kcp_images_intersect(const uint8_t *first, size_t first_count, const u
 kc_status kcp_images_difference(const uint8_t *first, size_t first_count, const uint8_t *second, size_t second_count,
                                 uint64_t seed, uint8_t *out, size_t out_room, uint64_t *length);
 
-kc_status kcp_sums_new(kc_sums *sums, uint8_t lg_k, uint64_t seed);
-kc_status kcp_sums_new_with(kc_sums *sums, uint8_t lg_k, uint64_t seed, uint32_t resize_factor,
+kc_status kcp_sums_new(kc_sums *sums, uint32_t lg_k, uint64_t seed);
+kc_status kcp_sums_new_with(kc_sums *sums, uint32_t lg_k, uint64_t seed, uint32_t resize_factor,
                             uint64_t starting_theta);
 kc_status kcp_sums_clone(kc_sums *sums, kc_sums *out);
 void kcp_sums_free(kc_sums *sums);
@@ -78,16 +81,25 @@ kc_status kcp_sums_state(kc_sums *sums, kc_state *out);
 kc_status kcp_sums_image(kc_sums *sums, uint8_t *out, size_t out_room, uint64_t *length);
 kc_status kcp_sums_compact(kc_sums *sums, kc_compact_sums *out);
 kc_status kcp_sums_total(kc_sums *sums, kc_wide *out);
+kc_status kcp_sums_entries(kc_sums *sums, uint64_t *hashes, size_t hashes_room, uint64_t *values, size_t values_room,
+                           uint64_t *count);
+kc_status kcp_sums_add_hashes(kc_sums *sums, const uint64_t *hashes, size_t hashes_count, const uint64_t *values,
+                              size_t values_count, uint64_t *added);
+kc_status kcp_sums_add_strings(kc_sums *sums, const uint8_t *bytes, size_t bytes_count, const uint64_t *ends,
+                               size_t ends_count, const uint64_t *values, size_t values_count, uint64_t *added);
 
 kc_status kcp_compact_sums_read(kc_compact_sums *sums, const uint8_t *image, size_t count, uint64_t seed);
 void kcp_compact_sums_free(kc_compact_sums *sums);
+kc_status kcp_compact_sums_clone(kc_compact_sums *sums, kc_compact_sums *out);
 kc_status kcp_compact_sums_state(kc_compact_sums *sums, kc_state *out);
 kc_status kcp_compact_sums_image(kc_compact_sums *sums, uint8_t *out, size_t out_room, uint64_t *length);
 kc_status kcp_compact_sums_entries(kc_compact_sums *sums, uint64_t *hashes, size_t hashes_room, uint64_t *values,
                                    size_t values_room, uint64_t *count);
 kc_status kcp_compact_sums_total(kc_compact_sums *sums, kc_wide *out);
 
-kc_status kcp_sums_union_new(kc_sums_union *u, uint8_t lg_k, uint64_t seed);
+kc_status kcp_sums_union_new(kc_sums_union *u, uint32_t lg_k, uint64_t seed);
+kc_status kcp_sums_union_new_with(kc_sums_union *u, uint32_t lg_k, uint64_t seed, uint32_t resize_factor,
+                                  uint64_t starting_theta);
 void kcp_sums_union_free(kc_sums_union *u);
 kc_status kcp_sums_union_add(kc_sums_union *u, kc_sums *sketch);
 kc_status kcp_sums_union_add_compact(kc_sums_union *u, kc_compact_sums *sketch);
@@ -95,6 +107,7 @@ kc_status kcp_sums_union_add_image(kc_sums_union *u, const uint8_t *image, size_
 kc_status kcp_sums_union_result(kc_sums_union *u, kc_compact_sums *out);
 kc_status kcp_sums_union_image(kc_sums_union *u, uint8_t *out, size_t out_room, uint64_t *length);
 kc_status kcp_sums_union_reset(kc_sums_union *u);
+kc_status kcp_sums_union_lower_lg_k(kc_sums_union *u, uint32_t lg_k);
 
 kc_status kcp_sums_intersection_new(kc_sums_intersection *intersection, uint64_t seed);
 void kcp_sums_intersection_free(kc_sums_intersection *intersection);

@@ -24,12 +24,18 @@ static kc_state state_of(const kc_compact *sketch) {
 
 static int is_near(double estimate, double truth) { return estimate > 0.95 * truth && estimate < 1.05 * truth; }
 
+static int by_number(const void *a, const void *b) {
+    uint64_t m = *(const uint64_t *)a, n = *(const uint64_t *)b;
+    return (m > n) - (m < n);
+}
+
 static void sketches(void) {
     kc_theta s = {0}, other = {0};
     kc_state st = {7, 7, 7};
     uint64_t length = 9;
     WANT(kc_theta_new(&s, 3, SEED) == KC_INVALID_ARGUMENT && s.object == NULL);
     WANT(kc_theta_new(&s, 27, SEED) == KC_INVALID_ARGUMENT && s.object == NULL);
+    WANT(kc_theta_new(&s, 256 + 12, SEED) == KC_INVALID_ARGUMENT && kc_theta_new_with(&s, UINT32_MAX, SEED, 8, KC_MAX_THETA) == KC_INVALID_ARGUMENT && s.object == NULL);
     WANT(kc_theta_new(NULL, 12, SEED) == KC_INVALID_ARGUMENT);
     WANT(kc_theta_new(&s, 12, SEED) == KC_OK && s.object != NULL);
     void *object = s.object;
@@ -61,6 +67,21 @@ static void sketches(void) {
     numbers(&s, 0, 100000);
     WANT(kc_theta_state(&s, &st) == KC_OK && st.theta < KC_MAX_THETA && is_near(kc_estimate(&st), 100003));
     WANT(kc_theta_trim(&s) == KC_OK && kc_theta_state(&s, &st) == KC_OK && st.retained == 4096);
+    /* its hashes are those of its compact form, which are those of its image */
+    static uint64_t listed[8192], ordered[8192];
+    kc_compact form = {0};
+    uint64_t count = 9;
+    listed[0] = 7;
+    WANT(kc_theta_hashes(&s, NULL, 0, &count) == KC_TOO_SMALL && count == 4096 && kc_theta_hashes(&s, listed, 4095, &count) == KC_TOO_SMALL && listed[0] == 7);
+    WANT(kc_theta_hashes(&s, listed, 4096, &count) == KC_OK && count == 4096 && kc_theta_compact(&s, &form) == KC_OK);
+    WANT(kc_compact_hashes(&form, ordered, 4095, &count) == KC_TOO_SMALL && count == 4096 && ordered[0] == 0);
+    WANT(kc_compact_hashes(&form, ordered, 8192, &count) == KC_OK && count == 4096 && ordered[4096] == 0);
+    WANT(kc_compact_image(&form, a_image, sizeof a_image, &a_length) == KC_OK && memcmp(a_image + a_length - 8 * 4096, ordered, 8 * 4096) == 0);
+    qsort(listed, 4096, sizeof *listed, by_number);
+    WANT(memcmp(listed, ordered, sizeof *listed * 4096) == 0 && ordered[4095] < st.theta && kc_compact_free(&form) == KC_OK);
+    count = 9;
+    WANT(kc_compact_hashes(&form, ordered, 8192, &count) == KC_INVALID_ARGUMENT && kc_theta_hashes(&other, listed, 8192, &count) == KC_INVALID_ARGUMENT && count == 9);
+    WANT(kc_theta_hashes(&s, listed, 8192, NULL) == KC_INVALID_ARGUMENT && kc_theta_hashes(&s, NULL, 1, &count) == KC_INVALID_ARGUMENT);
     /* a handle without an object, and null pointers */
     WANT(kc_theta_update_hash(&other, 5) == KC_INVALID_ARGUMENT && kc_theta_update_u64(&other, 5) == KC_INVALID_ARGUMENT);
     WANT(kc_theta_update_bytes(&other, "", 0) == KC_INVALID_ARGUMENT && kc_theta_update_hashes(&other, &hash, 1) == KC_INVALID_ARGUMENT);
@@ -248,6 +269,37 @@ static void batches(void) {
 }
 
 /* The lines of a text, cut into pieces of every length, are those of `kc_theta_update_bytes`. */
+/* Unions with a resize factor and a starting theta, and with fewer nominal entries. */
+static void union_settings(void) {
+    const uint64_t half = KC_MAX_THETA / 2;
+    kc_theta a = {0};
+    kc_sums m = {0};
+    kc_union u = {0}, few = {0};
+    kc_sums_union su = {0};
+    kc_compact_sums sr = {0};
+    kc_state st = {7, 7, 7};
+    WANT(kc_theta_new(&a, 12, SEED) == KC_OK && kc_sums_new(&m, 12, SEED) == KC_OK);
+    numbers(&a, 0, 3000);
+    for (uint64_t n = 0; n < 3000; n++) WANT(kc_sums_add_u64(&m, n, 1) == KC_OK);
+    WANT(kc_union_new(&u, 256 + 12, SEED) == KC_INVALID_ARGUMENT && u.object == NULL && kc_union_new(&u, 12, SEED) == KC_OK && kc_union_add(&u, &a) == KC_OK);
+    /* lowered: the value is cut, as one of a union that had fewer nominal entries from the start */
+    WANT(kc_union_lower_lg_k(&u, 12) == KC_OK && kc_union_lower_lg_k(&u, 13) == KC_INVALID_ARGUMENT && kc_union_lower_lg_k(&u, 3) == KC_INVALID_ARGUMENT);
+    WANT(kc_union_lower_lg_k(&u, 256 + 8) == KC_INVALID_ARGUMENT && kc_union_lower_lg_k(&u, 27) == KC_INVALID_ARGUMENT);
+    WANT(kc_union_new(&few, 8, SEED) == KC_OK && kc_union_add(&few, &a) == KC_OK && kc_union_image(&few, b_image, sizeof b_image, &b_length) == KC_OK);
+    WANT(kc_union_lower_lg_k(&u, 8) == KC_OK && kc_union_image(&u, a_image, sizeof a_image, &a_length) == KC_OK);
+    WANT(a_length == b_length && memcmp(a_image, b_image, a_length) == 0 && kc_union_lower_lg_k(&u, 9) == KC_INVALID_ARGUMENT);
+    WANT(kc_union_reset(&u) == KC_OK && kc_union_add(&u, &a) == KC_OK && kc_union_image(&u, a_image, sizeof a_image, &a_length) == KC_OK);
+    WANT(a_length == b_length && memcmp(a_image, b_image, a_length) == 0);
+    WANT(kc_union_free(&u) == KC_OK && kc_union_free(&few) == KC_OK && kc_union_lower_lg_k(&u, 8) == KC_INVALID_ARGUMENT && kc_union_lower_lg_k(NULL, 8) == KC_INVALID_ARGUMENT);
+    /* the same of sums */
+    WANT(kc_sums_union_new_with(&su, 256 + 12, SEED, 2, half) == KC_INVALID_ARGUMENT && kc_sums_union_new_with(&su, 12, SEED, 0, half) == KC_INVALID_ARGUMENT);
+    WANT(kc_sums_union_new_with(&su, 12, SEED, 4, half) == KC_OK && kc_sums_union_add(&su, &m) == KC_OK);
+    WANT(kc_sums_union_lower_lg_k(&su, 256 + 8) == KC_INVALID_ARGUMENT && kc_sums_union_lower_lg_k(&su, 8) == KC_OK && kc_sums_union_lower_lg_k(&su, 9) == KC_INVALID_ARGUMENT);
+    WANT(kc_sums_union_result(&su, &sr) == KC_OK && kc_compact_sums_state(&sr, &st) == KC_OK && st.retained == 256 && st.theta < half);
+    WANT(kc_compact_sums_free(&sr) == KC_OK && kc_sums_union_free(&su) == KC_OK && kc_sums_union_lower_lg_k(&su, 8) == KC_INVALID_ARGUMENT);
+    WANT(kc_theta_free(&a) == KC_OK && kc_sums_free(&m) == KC_OK);
+}
+
 static void texts_in_pieces(void) {
     static const char text[] = "ann\nbob\n\nann\r\na line that is longer than the thirty-two bytes which are hashed at once\nbob\n\xff\0\nlast";
     static const struct { const char *line; size_t count; } lines[] = {
@@ -313,6 +365,49 @@ static void values(kc_sums *sketch, uint64_t first, uint64_t count) {
 
 static uint64_t hashes[8192], counted[8192];
 
+/* Many values at a call are those of one call after another, up to the first that is refused. */
+static void many_values(void) {
+    kc_sums s = {0}, same = {0}, none = {0};
+    kc_wide total = {7, 7};
+    uint64_t added = 9, length = 0;
+    WANT(kc_sums_new(&s, 5, SEED) == KC_OK && kc_sums_new(&same, 5, SEED) == KC_OK);
+    for (uint64_t n = 0; n < 3000; n++) {
+        WANT(kc_hash_u64(SEED, n % 1000, &hashes[n]) == KC_OK);
+        counted[n] = n;
+        WANT(kc_sums_add_hash(&same, hashes[n], n) == KC_OK);
+    }
+    WANT(kc_sums_add_hashes(&s, hashes, 3000, counted, 3000, &added) == KC_OK && added == 3000);
+    WANT(kc_sums_image(&s, a_image, sizeof a_image, &a_length) == KC_OK && kc_sums_image(&same, b_image, sizeof b_image, &b_length) == KC_OK);
+    WANT(a_length == b_length && a_length > 24 && memcmp(a_image, b_image, a_length) == 0);
+    WANT(kc_sums_add_hashes(&s, hashes, 2, counted, 3, &added) == KC_INVALID_ARGUMENT && added == 0);
+    WANT(kc_sums_add_hashes(&s, hashes, 3, counted, 2, &added) == KC_INVALID_ARGUMENT && kc_sums_add_hashes(&s, NULL, 0, NULL, 0, &added) == KC_OK && added == 0);
+    WANT(kc_sums_image(&s, out, sizeof out, &length) == KC_OK && length == a_length && memcmp(a_image, out, length) == 0);
+    /* 5, 6, then one too many at the first hash */
+    WANT(kc_sums_reset(&s) == KC_OK && kc_sums_reset(&same) == KC_OK && kc_sums_total(&s, &total) == KC_OK && total.low == 0);
+    hashes[2] = hashes[0], counted[0] = 5, counted[1] = 6, counted[2] = UINT64_MAX - 4, counted[3] = 1;
+    WANT(kc_sums_add_hashes(&s, hashes, 4, counted, 4, &added) == KC_POLICY && added == 2);
+    WANT(kc_sums_add_hash(&same, hashes[0], 5) == KC_OK && kc_sums_add_hash(&same, hashes[1], 6) == KC_OK);
+    WANT(kc_sums_image(&s, a_image, sizeof a_image, &a_length) == KC_OK && kc_sums_image(&same, b_image, sizeof b_image, &b_length) == KC_OK);
+    WANT(a_length == b_length && memcmp(a_image, b_image, a_length) == 0);
+    /* "ann", "", "bob", "ann" */
+    const uint64_t ends[] = {3, 3, 6, 9}, past[] = {3, 7}, turned[] = {3, 2}, amounts[] = {1, 10, 100, 1000};
+    WANT(kc_sums_reset(&s) == KC_OK && kc_sums_reset(&same) == KC_OK);
+    WANT(kc_sums_add_strings(&s, "annbobann", 9, ends, 4, amounts, 4, &added) == KC_OK && added == 4);
+    WANT(kc_sums_add_bytes(&same, "ann", 3, 1001) == KC_OK && kc_sums_add_bytes(&same, "bob", 3, 100) == KC_OK && kc_sums_add_bytes(&same, "", 0, 10) == KC_OK);
+    WANT(kc_sums_image(&s, a_image, sizeof a_image, &a_length) == KC_OK && kc_sums_image(&same, b_image, sizeof b_image, &b_length) == KC_OK);
+    WANT(a_length == b_length && memcmp(a_image, b_image, a_length) == 0);
+    WANT(kc_sums_add_strings(&s, "annbob", 6, past, 2, amounts, 2, &added) == KC_INVALID_ARGUMENT && added == 0);
+    added = 9;
+    WANT(kc_sums_add_strings(&s, "annbob", 6, turned, 2, amounts, 2, &added) == KC_INVALID_ARGUMENT && added == 0);
+    WANT(kc_sums_add_strings(&s, "annbob", 6, ends, 3, amounts, 4, &added) == KC_INVALID_ARGUMENT && added == 0);
+    added = 9;
+    WANT(kc_sums_add_strings(&s, NULL, 6, ends, 3, amounts, 3, &added) == KC_INVALID_ARGUMENT && kc_sums_add_strings(&s, "", 0, ends, 0, NULL, 1, &added) == KC_INVALID_ARGUMENT);
+    WANT(kc_sums_add_hashes(&none, hashes, 1, counted, 1, &added) == KC_INVALID_ARGUMENT && kc_sums_add_hashes(&s, hashes, 1, counted, 1, NULL) == KC_INVALID_ARGUMENT);
+    WANT(kc_sums_add_strings(&none, "", 0, ends, 0, amounts, 0, &added) == KC_INVALID_ARGUMENT && added == 9);
+    WANT(kc_sums_image(&s, out, sizeof out, &length) == KC_OK && length == a_length && memcmp(a_image, out, length) == 0);
+    WANT(kc_sums_free(&s) == KC_OK && kc_sums_free(&same) == KC_OK);
+}
+
 static void compact_sums(void) {
     kc_sums s = {0}, none = {0}, copy = {0};
     kc_compact_sums c = {0}, d = {0};
@@ -337,7 +432,23 @@ static void compact_sums(void) {
         sum += counted[n];
     }
     WANT(sum == 999 * 1000 / 2 && kc_compact_sums_total(&c, &total) == KC_OK && total.low == sum && total.high == 0);
+    /* those of the sketch that takes updates, in some order */
+    static uint64_t listed[8192], sums_listed[8192];
+    WANT(kc_sums_entries(&s, listed, sums_listed, 999, &count) == KC_TOO_SMALL && count == 1000 && listed[0] == 0);
+    WANT(kc_sums_entries(&s, listed, sums_listed, 8192, &count) == KC_OK && count == 1000 && listed[1000] == 0);
+    for (uint64_t n = 0, m; n < count; n++) {
+        for (m = 0; m < count && hashes[m] != listed[n]; m++) {}
+        WANT(m < count && counted[m] == sums_listed[n]);
+    }
+    qsort(listed, count, sizeof *listed, by_number);
+    WANT(memcmp(listed, hashes, count * sizeof *listed) == 0);
+    count = 9;
+    WANT(kc_sums_entries(&none, listed, sums_listed, 8192, &count) == KC_INVALID_ARGUMENT && count == 9 && kc_sums_entries(&s, listed, listed, 8192, &count) == KC_INVALID_ARGUMENT);
+    count = 1000;
     WANT(kc_compact_sums_entries(&c, hashes, hashes, 8192, &count) == KC_INVALID_ARGUMENT && kc_compact_sums_entries(&c, NULL, counted, 8192, &count) == KC_INVALID_ARGUMENT);
+    WANT(kc_compact_sums_clone(&c, &d) == KC_OK && kc_compact_sums_clone(&c, &d) == KC_INVALID_ARGUMENT && kc_compact_sums_clone(&d, &d) == KC_INVALID_ARGUMENT);
+    WANT(kc_compact_sums_image(&d, out, sizeof out, &length) == KC_OK && length == a_length && memcmp(a_image, out, length) == 0 && kc_compact_sums_free(&d) == KC_OK);
+    WANT(kc_compact_sums_clone(&d, &d) == KC_INVALID_ARGUMENT);
     WANT(kc_compact_sums_read(&d, a_image, a_length - 1, SEED) == KC_INVALID_DATA && kc_compact_sums_read(&d, a_image, a_length, SEED + 1) == KC_INVALID_DATA);
     WANT(kc_compact_sums_read(&d, NULL, 5, SEED) == KC_INVALID_ARGUMENT && kc_compact_sums_read(&d, NULL, 0, SEED) == KC_INVALID_DATA && d.object == NULL);
     WANT(kc_compact_sums_read(&d, a_image, a_length, SEED) == KC_OK && kc_compact_sums_read(&d, a_image, a_length, SEED) == KC_INVALID_ARGUMENT);
@@ -589,8 +700,10 @@ int main(void) {
     compacts();
     operators();
     batches();
+    union_settings();
     texts_in_pieces();
     sums();
+    many_values();
     compact_sums();
     sums_unions();
     sums_intersections();

@@ -113,8 +113,8 @@ typedef struct {
     const Items *items, *values;
     uint64_t value;
     size_t room;
-    char *bytes; /* the bytes of texts */
-    uint64_t ends[AT_A_CALL];
+    char *bytes; /* the bytes of texts, and of keys of sums */
+    uint64_t ends[AT_A_CALL], amounts[AT_A_CALL];
 } ArrayWork;
 
 /* Inserts at most AT_A_CALL numbers, each by its eight bytes. */
@@ -155,22 +155,35 @@ static void insert_texts(Handle *handle, Work *work, Py_ssize_t to) {
     }
 }
 
+/* Puts the next item into the call that is made ready, with its value. Returns whether it could. */
+static bool put_item(ArrayWork *own, Py_ssize_t at, Py_ssize_t place, size_t *used) {
+    const Items *items = own->items, *values = own->values;
+    bool is_number = items->form == 'u' || items->form == 'i';
+    uint64_t number = is_number ? number_at(items, at) : 0;
+    Py_ssize_t length = is_number ? 8 : text_at(items, at, own->bytes + *used);
+    if (values != NULL && is_negative_at(values, at)) own->work.flaw = NEGATIVE_VALUE;
+    else if (length < 0) own->work.flaw = NO_TEXT;
+    if (own->work.flaw != 0) return false;
+    if (is_number) memcpy(own->bytes + *used, &number, 8);
+    *used += (size_t)length;
+    own->ends[place] = *used;
+    own->amounts[place] = values != NULL ? number_at(values, at) : own->value;
+    return true;
+}
+
 static void add_sums(Handle *handle, Work *work, Py_ssize_t to) {
     ArrayWork *own = (ArrayWork *)work;
-    const Items *items = own->items, *values = own->values;
-    for (; work->done < to; work->done++) {
-        uint64_t value = values != NULL ? number_at(values, work->done) : own->value;
-        if (values != NULL && is_negative_at(values, work->done)) work->flaw = NEGATIVE_VALUE;
-        if (work->flaw != 0) return;
-        if (items->form == 'u' || items->form == 'i') {
-            work->status = kc_sums_add_u64(&handle->sums, number_at(items, work->done), value);
-        } else {
-            Py_ssize_t length = text_at(items, work->done, own->bytes);
-            if (length < 0) work->flaw = NO_TEXT;
-            if (length < 0) return;
-            work->status = kc_sums_add_bytes(&handle->sums, own->bytes, (size_t)length, value);
+    size_t most = own->items->form == 'u' || own->items->form == 'i' ? 8 : (size_t)own->items->size;
+    while (work->done < to && work->status == KC_OK && work->flaw == 0) {
+        size_t used = 0;
+        Py_ssize_t count = 0;
+        uint64_t added = 0;
+        while (count < AT_A_CALL && work->done + count < to && most <= own->room - used) {
+            if (!put_item(own, work->done + count, count, &used)) break;
+            count++;
         }
-        if (work->status != KC_OK) return;
+        work->status = kc_sums_add_strings(&handle->sums, own->bytes, used, own->ends, (size_t)count, own->amounts, (size_t)count, &added);
+        work->done += (Py_ssize_t)added;
     }
 }
 
@@ -198,7 +211,7 @@ int do_work(Object *o, Work *work) {
 /* Adds the items as keys, and to a sketch of sums their values, or each with one value. `added` becomes how many were added. */
 int add_items(Object *o, const Items *items, const Items *values, uint64_t value, Py_ssize_t *added) {
     bool is_text = items->form == 'S' || items->form == 'U';
-    size_t room = !is_text ? 0 : items->size > ROOM ? (size_t)items->size : ROOM;
+    size_t room = !is_text && !o->kind->of_sums ? 0 : items->size > ROOM ? (size_t)items->size : ROOM;
     ArrayWork *own = PyMem_Malloc(sizeof *own + room);
     if (own == NULL) {
         PyErr_NoMemory();

@@ -54,8 +54,8 @@ const _: () =
 
 type Free = unsafe extern "C" fn(*mut Raw) -> Status;
 type Change = unsafe extern "C" fn(*mut Raw) -> Status;
-type NewWith = unsafe extern "C" fn(*mut Raw, u8, u64, u32, u64) -> Status;
-type NewUnion = unsafe extern "C" fn(*mut Raw, u8, u64) -> Status;
+type NewWith = unsafe extern "C" fn(*mut Raw, u32, u64, u32, u64) -> Status;
+type NewUnion = unsafe extern "C" fn(*mut Raw, u32, u64) -> Status;
 type NewIntersection = unsafe extern "C" fn(*mut Raw, u64) -> Status;
 type WriteState = unsafe extern "C" fn(*const Raw, *mut State) -> Status;
 type WriteImage = unsafe extern "C" fn(*const Raw, *mut u8, usize, *mut u64) -> Status;
@@ -67,7 +67,7 @@ type Difference = unsafe extern "C" fn(*const Raw, *const Raw, u64, *mut Raw) ->
 
 // As include/kaftanclay.h declares them; a handle of any kind is a `Raw`.
 extern "C" {
-    fn kc_theta_new_with(sketch: *mut Raw, lg_k: u8, seed: u64, resize_factor: u32, starting_theta: u64) -> Status;
+    fn kc_theta_new_with(sketch: *mut Raw, lg_k: u32, seed: u64, resize_factor: u32, starting_theta: u64) -> Status;
     fn kc_theta_free(sketch: *mut Raw) -> Status;
     fn kc_theta_update_hash(sketch: *mut Raw, hash: u64) -> Status;
     fn kc_theta_update_hashes(sketch: *mut Raw, hashes: *const u64, count: usize) -> Status;
@@ -82,7 +82,7 @@ extern "C" {
     fn kc_compact_state(sketch: *const Raw, out: *mut State) -> Status;
     fn kc_compact_image(sketch: *const Raw, out: *mut u8, room: usize, length: *mut u64) -> Status;
     fn kc_compact_clone(sketch: *const Raw, out: *mut Raw) -> Status;
-    fn kc_union_new(u: *mut Raw, lg_k: u8, seed: u64) -> Status;
+    fn kc_union_new(u: *mut Raw, lg_k: u32, seed: u64) -> Status;
     fn kc_union_free(u: *mut Raw) -> Status;
     fn kc_union_add(u: *mut Raw, sketch: *const Raw) -> Status;
     fn kc_union_add_compact(u: *mut Raw, sketch: *const Raw) -> Status;
@@ -107,7 +107,7 @@ extern "C" {
         room: usize,
         length: *mut u64,
     ) -> Status;
-    fn kc_sums_new_with(sums: *mut Raw, lg_k: u8, seed: u64, resize_factor: u32, starting_theta: u64) -> Status;
+    fn kc_sums_new_with(sums: *mut Raw, lg_k: u32, seed: u64, resize_factor: u32, starting_theta: u64) -> Status;
     fn kc_sums_free(sums: *mut Raw) -> Status;
     fn kc_sums_add_bytes(sums: *mut Raw, bytes: *const u8, count: usize, value: u64) -> Status;
     fn kc_sums_trim(sums: *mut Raw) -> Status;
@@ -119,7 +119,7 @@ extern "C" {
     fn kc_compact_sums_free(sums: *mut Raw) -> Status;
     fn kc_compact_sums_state(sums: *const Raw, out: *mut State) -> Status;
     fn kc_compact_sums_image(sums: *const Raw, out: *mut u8, room: usize, length: *mut u64) -> Status;
-    fn kc_sums_union_new(u: *mut Raw, lg_k: u8, seed: u64) -> Status;
+    fn kc_sums_union_new(u: *mut Raw, lg_k: u32, seed: u64) -> Status;
     fn kc_sums_union_free(u: *mut Raw) -> Status;
     fn kc_sums_union_add(u: *mut Raw, sketch: *const Raw) -> Status;
     fn kc_sums_union_add_compact(u: *mut Raw, sketch: *const Raw) -> Status;
@@ -367,7 +367,7 @@ impl<K: Sketch> Object<K> {
 impl<K: Updated> Object<K> {
     pub(crate) fn new(lg_k: u8, seed: u64, resize_factor: u32, starting_theta: u64) -> Result<Self, Error> {
         // SAFETY: the handle has no object yet.
-        Self::made(|at| unsafe { K::NEW(at, lg_k, seed, resize_factor, starting_theta) })
+        Self::made(|at| unsafe { K::NEW(at, u32::from(lg_k), seed, resize_factor, starting_theta) })
     }
 
     pub(crate) fn trim(&mut self) -> Result<(), Error> {
@@ -470,7 +470,7 @@ impl<K: Operator> Object<K> {
 impl<K: Unites> Object<K> {
     pub(crate) fn union(lg_k: u8, seed: u64) -> Result<Self, Error> {
         // SAFETY: the handle has no object yet.
-        Self::made(|at| unsafe { K::NEW(at, lg_k, seed) })
+        Self::made(|at| unsafe { K::NEW(at, u32::from(lg_k), seed) })
     }
 
     /// Can't be refused.

@@ -4,11 +4,14 @@ ghost use Rattle.c_objects.specs.Bounds.{is_state};
 ghost use Rattle.c_objects.specs.Buffer.{WritesOf};
 ghost use Rattle.c_handles.specs.Calls.{Fills, FillsFrom, WritesValue};
 ghost use Rattle.c_objects.specs.Status.{IsMemoryRefusal};
-ghost use Rattle.c_objects.specs.Thetas.{compact_state, IsCompactImage, IsCopy, IsReadFrom, IsReadRefusal};
+ghost use Rattle.c_objects.specs.Thetas.{compact_state, CopiesHashes, IsCompactImage, IsCopy, IsReadFrom};
+ghost use Rattle.c_objects.specs.Thetas.{IsReadRefusal};
 
 use c_handles::handles::CompactHandle;
 use c_handles::readers::CompactReader;
+use c_objects::compact::put_hashes_of;
 use c_objects::state::State;
+use c_objects::status::INVALID_ARGUMENT;
 use std::alloc::Global;
 
 /// Reads the sketch that the bytes begin with, under this seed; bytes after it are ignored. Serial versions 1, 2 and
@@ -68,4 +71,19 @@ pub extern "C" fn kcp_compact_image(
         out.new length.new }
 {
     sketch.reader().image(out, length)
+}
+
+/// Writes the sketch's hashes, in the order of its image, as `kcp_theta_hashes` does.
+#[unsafe(no_mangle)]
+pub extern "C" fn kcp_compact_hashes(
+    sketch: &mut CompactReader,
+    hashes: &mut [u64],
+    count: &mut u64,
+) -> u32
+    ensures { CopiesHashes sketch.old.value hashes.old count.old result hashes.new count.new }
+{
+    match sketch.reader().get() {
+        Some(object) => put_hashes_of(object, hashes, count),
+        None => INVALID_ARGUMENT,
+    }
 }

@@ -2,15 +2,15 @@
 ghost use Rattle.std.specs.Prelude.{◌≡◌, true, None, option_map, length};
 ghost use Rattle.c_objects.specs.Bounds.{is_state, wide};
 ghost use Rattle.c_objects.specs.Buffer.{WritesOf};
-ghost use Rattle.c_handles.specs.Calls.{Fills, WritesValue};
+ghost use Rattle.c_handles.specs.Calls.{Fills, FillsFrom, WritesValue};
 ghost use Rattle.c_objects.specs.CompactSums.{IsSumsReadFrom, IsSumsReadRefusal, compact_sums_state};
-ghost use Rattle.c_objects.specs.CompactSums.{IsCompactSumsImage, compact_total, CopiesEntries};
+ghost use Rattle.c_objects.specs.CompactSums.{IsCompactSumsImage, IsCopyOfSums, compact_total, CopiesEntries};
 ghost use Rattle.c_objects.specs.Status.{IsMemoryRefusal};
 
 use c_handles::handles::CompactSumsHandle;
 use c_handles::readers::CompactSumsReader;
 use c_objects::bounds::Wide;
-use c_objects::compact_sums::put_entries;
+use c_objects::compact_sums::put_entries_of;
 use c_objects::state::State;
 use c_objects::status::INVALID_ARGUMENT;
 use std::alloc::Global;
@@ -35,6 +35,18 @@ pub extern "C" fn kcp_compact_sums_free(alloc: Global, sums: &mut CompactSumsHan
     ensures { sums.new.value ≡ None }
 {
     sums.owned().free(alloc);
+}
+
+/// Copies a sketch into another handle. Refused with `OUT_OF_MEMORY`.
+#[unsafe(no_mangle)]
+pub extern "C" fn kcp_compact_sums_clone(
+    alloc: Global,
+    sums: &mut CompactSumsReader,
+    out: &mut CompactSumsHandle,
+) -> u32
+    ensures { FillsFrom IsCopyOfSums (λ _. IsMemoryRefusal) sums.old.value out.old.value result out.new.value }
+{
+    sums.reader().copy(alloc, out.owned())
 }
 
 /// Writes the sketch's state, as `kcp_theta_state` does.
@@ -74,7 +86,7 @@ pub extern "C" fn kcp_compact_sums_entries(
         count.new }
 {
     match sums.reader().get() {
-        Some(object) => put_entries(object, hashes, values, count),
+        Some(object) => put_entries_of(object, hashes, values, count),
         None => INVALID_ARGUMENT,
     }
 }

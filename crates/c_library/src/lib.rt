@@ -65,6 +65,9 @@ mod images;
 // Tuple sketches of sums
 mod sums;
 
+// Tuple sketches of sums: many values
+mod values;
+
 // Compact tuple sketches of sums
 mod compact_sums;
 

@@ -4,6 +4,7 @@ ghost use Rattle.core_laws.specs.declared.TheConstants.{MAX_THETA};
 ghost use Rattle.c_objects.specs.Bounds.{is_state, wide};
 ghost use Rattle.c_objects.specs.Buffer.{WritesOf};
 ghost use Rattle.c_handles.specs.Calls.{OnObject, Fills, FillsFrom, WritesValue};
+ghost use Rattle.c_objects.specs.CompactSums.{CopiesEntriesOf};
 ghost use Rattle.c_objects.specs.Settings.{IsSettingsRefusal, IsNewRefusal};
 ghost use Rattle.c_objects.specs.Status.{IsMemoryRefusal};
 ghost use Rattle.c_objects.specs.Sums.{IsNewSums, IsSameSums, AddsValue, AddsAtBytes, AddsAtNumber, TrimsSums};
@@ -15,13 +16,13 @@ use c_objects::bounds::Wide;
 use c_objects::settings::factor_of;
 use c_objects::state::State;
 use c_objects::status::INVALID_ARGUMENT;
-use c_objects::sums::{add_at_bytes, add_at_hash, add_at_number, build};
+use c_objects::sums::{add_at_bytes, add_at_hash, add_at_number, build, put_entries_of};
 use std::alloc::Global;
 use tuple_sketches::{MAX_THETA, ResizeFactor};
 
 /// Makes an empty sketch, as `kcp_theta_new` does.
 #[unsafe(no_mangle)]
-pub extern "C" fn kcp_sums_new(alloc: Global, sums: &mut SumsHandle, lg_k: u8, seed: u64) -> u32
+pub extern "C" fn kcp_sums_new(alloc: Global, sums: &mut SumsHandle, lg_k: u32, seed: u64) -> u32
     ensures { Fills (IsNewSums lg_k MAX_THETA seed) (IsSettingsRefusal lg_k seed) sums.old.value result sums.new.value }
 {
     sums.owned().put(alloc, build(alloc, lg_k, ResizeFactor::X8, MAX_THETA, seed))
@@ -32,7 +33,7 @@ pub extern "C" fn kcp_sums_new(alloc: Global, sums: &mut SumsHandle, lg_k: u8, s
 pub extern "C" fn kcp_sums_new_with(
     alloc: Global,
     sums: &mut SumsHandle,
-    lg_k: u8,
+    lg_k: u32,
     seed: u64,
     resize_factor: u32,
     starting_theta: u64,
@@ -156,4 +157,21 @@ pub extern "C" fn kcp_sums_total(sums: &mut SumsReader, out: &mut Wide) -> u32
     ensures { WritesValue (option_map (λ t. wide (sums_total t)) sums.old.value) out.old result out.new }
 {
     sums.reader().total(out)
+}
+
+/// Writes the hashes of the sketch and their sums, each hash once in no particular order, as
+/// `kcp_compact_sums_entries` does.
+#[unsafe(no_mangle)]
+pub extern "C" fn kcp_sums_entries(
+    sums: &mut SumsReader,
+    hashes: &mut [u64],
+    values: &mut [u64],
+    count: &mut u64,
+) -> u32
+    ensures { CopiesEntriesOf sums.old.value hashes.old values.old count.old result hashes.new values.new count.new }
+{
+    match sums.reader().get() {
+        Some(object) => put_entries_of(object, hashes, values, count),
+        None => INVALID_ARGUMENT,
+    }
 }

@@ -1,16 +1,20 @@
 //! Unions of tuple sketches of sums.
 ghost use Rattle.std.specs.Prelude.{◌≡◌, None};
+ghost use Rattle.core_laws.specs.declared.TheConstants.{MAX_THETA};
 ghost use Rattle.c_objects.specs.Buffer.{WritesOf};
 ghost use Rattle.c_objects.specs.CompactSums.{OfSums, OfCompactSums, OfSumsImage};
 ghost use Rattle.c_handles.specs.Calls.{OnObject, OnObjectWith, Fills, FillsFrom};
-ghost use Rattle.c_objects.specs.Settings.{IsSettingsRefusal};
+ghost use Rattle.c_objects.specs.Settings.{IsSettingsRefusal, IsNewRefusal};
 ghost use Rattle.c_objects.specs.SumsUnion.{IsNewSumsUnion, AddsShownSums, IsSumsUnionResult, IsSumsUnionImage};
-ghost use Rattle.c_objects.specs.SumsUnion.{IsSumsResultRefusal, ResetsSumsUnion};
+ghost use Rattle.c_objects.specs.SumsUnion.{IsSumsResultRefusal, LowersSumsUnion, ResetsSumsUnion};
 
 use c_handles::handles::{CompactSumsHandle, SumsUnionHandle};
 use c_handles::readers::{CompactSumsReader, SumsReader, SumsUnionReader};
-use c_objects::sums_union::build;
+use c_objects::settings::factor_of;
+use c_objects::status::INVALID_ARGUMENT;
+use c_objects::sums_union::{build, lower};
 use std::alloc::Global;
+use tuple_sketches::{MAX_THETA, ResizeFactor};
 
 /// Makes a union of 2^`lg_k` nominal entries, refused as `kcp_theta_new` is. Its value is that of a union of theta
 /// sketches, and beside each hash the sum of the sums of all sketches.
@@ -18,12 +22,34 @@ use std::alloc::Global;
 pub extern "C" fn kcp_sums_union_new(
     alloc: Global,
     union: &mut SumsUnionHandle,
-    lg_k: u8,
+    lg_k: u32,
     seed: u64,
 ) -> u32
-    ensures { Fills (IsNewSumsUnion lg_k seed) (IsSettingsRefusal lg_k seed) union.old.value result union.new.value }
+    ensures { Fills (IsNewSumsUnion lg_k MAX_THETA seed) (IsSettingsRefusal lg_k seed) union.old.value result
+        union.new.value }
 {
-    union.owned().put(alloc, build(alloc, lg_k, seed))
+    union.owned().put(alloc, build(alloc, lg_k, ResizeFactor::X8, MAX_THETA, seed))
+}
+
+/// Makes a union with a resize factor and a starting theta, as `kcp_theta_new_with` makes a sketch.
+#[unsafe(no_mangle)]
+pub extern "C" fn kcp_sums_union_new_with(
+    alloc: Global,
+    union: &mut SumsUnionHandle,
+    lg_k: u32,
+    seed: u64,
+    resize_factor: u32,
+    starting_theta: u64,
+) -> u32
+    ensures { Fills (IsNewSumsUnion lg_k starting_theta seed) (IsNewRefusal lg_k resize_factor starting_theta seed)
+        union.old.value result union.new.value }
+{
+    match factor_of(resize_factor) {
+        Some(factor) => union
+            .owned()
+            .put(alloc, build(alloc, lg_k, factor, starting_theta, seed)),
+        None => INVALID_ARGUMENT,
+    }
 }
 
 /// Frees the union of a handle, if it has one.
@@ -101,4 +127,15 @@ pub extern "C" fn kcp_sums_union_reset(union: &mut SumsUnionHandle) -> u32
     ensures { OnObject ResetsSumsUnion union.old.value result union.new.value }
 {
     union.owned().reset()
+}
+
+/// Lowers the union to 2^`lg_k` nominal entries, as `kcp_union_lower_lg_k` does.
+#[unsafe(no_mangle)]
+pub extern "C" fn kcp_sums_union_lower_lg_k(union: &mut SumsUnionHandle, lg_k: u32) -> u32
+    ensures { OnObject (LowersSumsUnion lg_k) union.old.value result union.new.value }
+{
+    match union.owned().get() {
+        Some(object) => lower(object, lg_k),
+        None => INVALID_ARGUMENT,
+    }
 }

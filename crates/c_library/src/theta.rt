@@ -7,14 +7,16 @@ ghost use Rattle.c_handles.specs.Calls.{OnObject, Fills, FillsFrom, WritesValue}
 ghost use Rattle.c_objects.specs.Settings.{IsSettingsRefusal, IsNewRefusal};
 ghost use Rattle.c_objects.specs.Status.{IsMemoryRefusal};
 ghost use Rattle.c_objects.specs.Thetas.{IsNewSketch, IsSameSketch, UpdatesHash, UpdatesNumber, UpdatesBytes};
-ghost use Rattle.c_objects.specs.Thetas.{UpdatesHashes, Trims, Resets, theta_state, IsImageOf, IsCompactForm};
+ghost use Rattle.c_objects.specs.Thetas.{CopiesHashesOf, UpdatesHashes, Trims, Resets, theta_state, IsImageOf, IsCompactForm};
 
 use c_handles::handles::{CompactHandle, ThetaHandle};
 use c_handles::readers::ThetaReader;
 use c_objects::settings::factor_of;
 use c_objects::state::State;
 use c_objects::status::INVALID_ARGUMENT;
-use c_objects::theta::{build, update_bytes, update_hash, update_hashes, update_number};
+use c_objects::theta::{
+    build, put_hashes_of, update_bytes, update_hash, update_hashes, update_number,
+};
 use std::alloc::Global;
 use theta_sketches::{MAX_THETA, ResizeFactor};
 
@@ -23,7 +25,12 @@ use theta_sketches::{MAX_THETA, ResizeFactor};
 /// Refused with `INVALID_ARGUMENT` if `lg_k` isn't from 4 to 26 or the hash of the seed is 0, and with
 /// `OUT_OF_MEMORY`.
 #[unsafe(no_mangle)]
-pub extern "C" fn kcp_theta_new(alloc: Global, sketch: &mut ThetaHandle, lg_k: u8, seed: u64) -> u32
+pub extern "C" fn kcp_theta_new(
+    alloc: Global,
+    sketch: &mut ThetaHandle,
+    lg_k: u32,
+    seed: u64,
+) -> u32
     ensures { Fills (IsNewSketch lg_k MAX_THETA seed) (IsSettingsRefusal lg_k seed) sketch.old.value result
         sketch.new.value }
 {
@@ -39,7 +46,7 @@ pub extern "C" fn kcp_theta_new(alloc: Global, sketch: &mut ThetaHandle, lg_k: u
 pub extern "C" fn kcp_theta_new_with(
     alloc: Global,
     sketch: &mut ThetaHandle,
-    lg_k: u8,
+    lg_k: u32,
     seed: u64,
     resize_factor: u32,
     starting_theta: u64,
@@ -173,4 +180,22 @@ pub extern "C" fn kcp_theta_compact(
     ensures { FillsFrom IsCompactForm (λ _. IsMemoryRefusal) sketch.old.value out.old.value result out.new.value }
 {
     sketch.reader().compact(alloc, out.owned())
+}
+
+/// Writes the sketch's hashes, each once in no particular order, to an array of `room` numbers, and their number to
+/// `*count`.
+///
+/// If room is less, the status is `TOO_SMALL`, the array is as before, and `*count` is the room that is needed.
+#[unsafe(no_mangle)]
+pub extern "C" fn kcp_theta_hashes(
+    sketch: &mut ThetaReader,
+    hashes: &mut [u64],
+    count: &mut u64,
+) -> u32
+    ensures { CopiesHashesOf sketch.old.value hashes.old count.old result hashes.new count.new }
+{
+    match sketch.reader().get() {
+        Some(theta) => put_hashes_of(theta, hashes, count),
+        None => INVALID_ARGUMENT,
+    }
 }

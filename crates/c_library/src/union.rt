@@ -5,11 +5,12 @@ ghost use Rattle.c_handles.specs.Calls.{OnObject, OnObjectWith, Fills, FillsFrom
 ghost use Rattle.c_objects.specs.Settings.{IsSettingsRefusal};
 ghost use Rattle.c_objects.specs.Thetas.{OfCompact, OfImage};
 ghost use Rattle.c_objects.specs.Union.{IsNewUnion, AddsShown, AddsUpdatable, IsUnionResult, IsUnionImage};
-ghost use Rattle.c_objects.specs.Union.{IsResultRefusal, ResetsUnion};
+ghost use Rattle.c_objects.specs.Union.{IsResultRefusal, LowersUnion, ResetsUnion};
 
 use c_handles::handles::{CompactHandle, UnionHandle};
 use c_handles::readers::{CompactReader, ThetaReader, UnionReader};
-use c_objects::union::build;
+use c_objects::status::INVALID_ARGUMENT;
+use c_objects::union::{build, lower};
 use std::alloc::Global;
 
 /// Makes a union of 2^`lg_k` nominal entries. Its value has the hashes of all its sketches below their least theta;
@@ -17,7 +18,7 @@ use std::alloc::Global;
 ///
 /// Refused as `kcp_theta_new` is.
 #[unsafe(no_mangle)]
-pub extern "C" fn kcp_union_new(alloc: Global, union: &mut UnionHandle, lg_k: u8, seed: u64) -> u32
+pub extern "C" fn kcp_union_new(alloc: Global, union: &mut UnionHandle, lg_k: u32, seed: u64) -> u32
     ensures { Fills (IsNewUnion lg_k seed) (IsSettingsRefusal lg_k seed) union.old.value result union.new.value }
 {
     union.owned().put(alloc, build(alloc, lg_k, seed))
@@ -52,8 +53,8 @@ pub extern "C" fn kcp_union_add_compact(union: &mut UnionHandle, sketch: &mut Co
 
 /// Merges the sketch that the bytes begin with, read under the union's seed, as `kcp_union_add` does.
 ///
-/// Refused with `INVALID_DATA` if the bytes begin with no sketch of this seed, and otherwise as `kcp_union_add` is;
-/// but if memory runs out while the image is read, nothing has changed.
+/// Refused with `INVALID_DATA` if the bytes begin with no sketch of this seed, also by a union that has failed, and
+/// otherwise as `kcp_union_add` is; but if memory runs out while the image is read, nothing has changed.
 #[unsafe(no_mangle)]
 pub extern "C" fn kcp_union_add_image(alloc: Global, union: &mut UnionHandle, image: &[u8]) -> u32
     ensures { OnObject (OfImage AddsShown (λ u. u.seed) image.now) union.old.value result union.new.value }
@@ -88,4 +89,19 @@ pub extern "C" fn kcp_union_reset(union: &mut UnionHandle) -> u32
     ensures { OnObject ResetsUnion union.old.value result union.new.value }
 {
     union.owned().reset()
+}
+
+/// Lowers the union to 2^`lg_k` nominal entries, `lg_k` from 4 to its own: its value is cut to those, and later values
+/// have no more, also after a reset. With its own `lg_k` nothing changes.
+///
+/// Refused with `FAILED` if the union has failed, else with `INVALID_ARGUMENT` if `lg_k` is out of range, and with
+/// `OUT_OF_MEMORY`.
+#[unsafe(no_mangle)]
+pub extern "C" fn kcp_union_lower_lg_k(union: &mut UnionHandle, lg_k: u32) -> u32
+    ensures { OnObject (LowersUnion lg_k) union.old.value result union.new.value }
+{
+    match union.owned().get() {
+        Some(object) => lower(object, lg_k),
+        None => INVALID_ARGUMENT,
+    }
 }

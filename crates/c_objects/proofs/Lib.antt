@@ -1,4 +1,6 @@
 mod Digits
 mod Inputs
+mod Lowering
 mod Merges
 mod Parts
+mod Turns

@@ -4,6 +4,7 @@ use Rattle.std.specs.Int.{w64, to_le_bytes}
 use Rattle.sketch_base.specs.Seed.{seed_hash}
 use Rattle.core_compact.specs.CompactState.{Compact, shown_of}
 use Rattle.core_images.specs.Summary.{SpellsNumber}
+use Rattle.core_laws.specs.Maps.{IsListing}
 use Rattle.core_laws.specs.Shown.{Shown}
 use Rattle.core_slots.specs.Entry.{tuple_key}
 use Rattle.core_slots.specs.declared.entry.TupleEntry.{TupleEntry}
@@ -32,6 +33,10 @@ compact_sums_state s = state_of s.sketch
 -- the image of a sketch
 abbrev pub IsCompactSumsImage : CompactSums → List ℕ → Type 0
 IsCompactSumsImage s image = image ≡ written (λ sum. to_le_bytes w64 sum) s.sketch
+
+-- a copy of a sketch
+abbrev pub IsCopyOfSums : (old new : CompactSums) → Type 0
+IsCopyOfSums old new = new ≡ old
 
 -- the total of a sketch: the sum of its sums
 abbrev pub compact_total : CompactSums → ℕ
@@ -65,6 +70,19 @@ CopiesEntries None hashes_before sums_before count_before status hashes sums cou
     (status ≡ 1) × (hashes ≡ hashes_before) × (sums ≡ sums_before) × (count ≡ count_before)
 CopiesEntries (Some s) hashes_before sums_before count_before status hashes sums count =
     PutsEntries s.sketch.entries hashes_before sums_before status hashes sums count
+
+-- the same of a sketch that takes updates, which lists each of its entries once, in some order
+abbrev pub CopiesEntriesOf : Option SeededSums
+    → (hashes_before sums_before : List ℕ)
+    → (count_before status : ℕ)
+    → (hashes sums : List ℕ)
+    → (count : ℕ)
+    → Type 0
+CopiesEntriesOf None hashes_before sums_before count_before status hashes sums count =
+    (status ≡ 1) × (hashes ≡ hashes_before) × (sums ≡ sums_before) × (count ≡ count_before)
+CopiesEntriesOf (Some t) hashes_before sums_before count_before status hashes sums count =
+    PutsEntries (sums_sketch t).sequence hashes_before sums_before status hashes sums count
+    × IsListing tuple_key (sums_sketch t).map.kept.entries (sums_sketch t).sequence
 
 -- a call of an operator on a sketch that takes updates: `Does`, on what the sketch shows and lists
 abbrev pub OfSums : {O : Type 0}

@@ -17,3 +17,4 @@ pub mod Texts
 pub mod Thetas
 pub mod Totals
 pub mod Union
+pub mod Values

@@ -59,6 +59,15 @@ GivesParts sketches old new =
     → ArePartsOf k start (map value_of sketches) streams →
     IsUnionOf lg_k k start new (hashes ++ concat streams)
 
+-- a call lowered a union to 2^lg_k nominal entries, and gave it nothing
+abbrev pub GivesLowered : {P : Type 0} → (lg_k : ℕ) → (old new : Union ℕ P) → Type 0
+GivesLowered lg_k old new =
+    (nominal k less start : ℕ) (hashes : List ℕ)
+    → IsUnionOf nominal k start old hashes
+    → less ≤ k
+    → less ≤ 2 ^ lg_k
+    → IsUnionOf lg_k less start new hashes
+
 -- the result of a union is a part of the union's stream, and it has the least hashes of the stream
 pub record HasUnion {P : Type 0} (u : Union ℕ P) (result : Compact ℕ) : Type 0 where
   pub part : (lg_k k start : ℕ) (hashes : List ℕ) → IsUnionOf lg_k k start u hashes → IsPartOf k start (value_of result) hashes

@@ -1,13 +1,13 @@
 -- Calls on unions of tuple sketches of sums.
-use Rattle.std.specs.Prelude.{◌≡◌, ◌⊎◌, ℕ, List, true, not, None}
+use Rattle.std.specs.Prelude.{◌≡◌, ◌≢◌, ◌⊎◌, ◌^◌, ℕ, List, true, not, None}
 use Rattle.std.specs.Int.{w64, to_le_bytes}
 use Rattle.sketch_base.specs.Seed.{seed_hash}
 use Rattle.sketch_base.specs.declared.error.ErrorKind.{ErrorKind}
 use Rattle.core_compact.specs.CompactState.{Compact, IsAnswer}
 use Rattle.core_laws.specs.Shown.{Shown}
-use Rattle.core_laws.specs.declared.TheConstants.{MAX_THETA}
+use Rattle.core_laws.specs.Values.{cut_value}
 use Rattle.core_operators.specs.Union.{Union, empty_union, union_value, update_refusal, failure, JoinsSummaries}
-use Rattle.core_operators.specs.Union.{UnitesSummaries, IsUpdateError}
+use Rattle.core_operators.specs.Union.{UnitesSummaries, IsUpdateError, lower_refusal, lower_allocates, lowered}
 use Rattle.core_policies.specs.Summaries.{combine_refused}
 use Rattle.core_policies.specs.Sums.{unsigned_sum}
 use Rattle.core_policies.specs.declared.default_union.DefaultUnionPolicy.{DefaultUnionPolicy}
@@ -24,8 +24,8 @@ abbrev pub sums_union_of : SeededSumsUnion → Union (TupleEntry ℕ) (DefaultUn
 sums_union_of u = union_state u.union
 
 -- a new union, without sketches
-abbrev pub IsNewSumsUnion : (lg_k seed : ℕ) → SeededSumsUnion → Type 0
-IsNewSumsUnion lg_k seed u = (u.seed ≡ seed) × (sums_union_of u ≡ empty_union lg_k MAX_THETA (seed_hash seed) (sums_union_of u).policy)
+abbrev pub IsNewSumsUnion : (lg_k start seed : ℕ) → SeededSumsUnion → Type 0
+IsNewSumsUnion lg_k start seed u = (u.seed ≡ seed) × (sums_union_of u ≡ empty_union lg_k start (seed_hash seed) (sums_union_of u).policy)
 
 -- a sketch that shows this was merged: the union's value is united with the sketch's, in which the sums of one hash are added,
 -- and only an Empty sketch changes nothing
@@ -65,6 +65,17 @@ IsSumsUnionImage u image = (s : Compact (TupleEntry ℕ)) × (image ≡ written 
 -- the refusal of the result: 5 if the union has failed, and otherwise 3
 abbrev pub IsSumsResultRefusal : SeededSumsUnion → (status : ℕ) → Type 0
 IsSumsResultRefusal u status = IsRefusal (failure (sums_union_of u).failed) (not (sums_union_of u).failed) status
+
+-- the union was lowered to 2^lg_k nominal entries, with status 0: its value is cut to those; or it refused, with 5 if it has
+-- failed, with 1 unless lg_k is from 4 to its own, and with 3, and is unchanged
+abbrev pub LowersSumsUnion : (lg_k : ℕ) → (old : SeededSumsUnion) → (status : ℕ) → (new : SeededSumsUnion) → Type 0
+LowersSumsUnion lg_k old status new =
+    let before = sums_union_of old in let after = sums_union_of new in
+    (new.seed ≡ old.seed)
+    × (status ≡ 0 → (lower_refusal before lg_k ≡ None)
+    × (after ≡ lowered tuple_key lg_k before)
+    × (union_value tuple_key after ≡ cut_value tuple_key (2 ^ lg_k) (union_value tuple_key before)))
+    × (status ≢ 0 → IsRefusal (lower_refusal before lg_k) (lower_allocates before lg_k) status × (after ≡ before))
 
 -- the union is as when it was new
 abbrev pub ResetsSumsUnion : (old : SeededSumsUnion) → (status : ℕ) → (new : SeededSumsUnion) → Type 0

@@ -1,10 +1,11 @@
 -- Calls on theta sketches: by the sketch before, the arguments, the status and the sketch after.
-use Rattle.std.specs.Prelude.{◌≡◌, ◌≢◌, ◌⊎◌, ◌^◌, ◌==◌, ◌&&◌, ℕ, Bool, List, [], ◌∷◌, length, true, false, nat_lt}
+use Rattle.std.specs.Prelude.{◌≡◌, ◌≢◌, ◌⊎◌, ◌^◌, ◌==◌, ◌&&◌, ℕ, Bool, List, [], ◌∷◌, length, true, false, nat_lt, Option, Some, None}
 use Rattle.std.specs.Prelude.{if◌then◌else◌, IsTrue}
 use Rattle.std.specs.Int.{w64, to_le_bytes}
 use Rattle.sketch_base.specs.Seed.{hash_of, seed_hash}
 use Rattle.core_compact.specs.CompactState.{Compact, IsAnswer, shown_of}
 use Rattle.core_laws.specs.Entries.{hash_key}
+use Rattle.core_laws.specs.Maps.{IsListing}
 use Rattle.core_laws.specs.Parts.{StopsAt}
 use Rattle.core_laws.specs.Shown.{Shown}
 use Rattle.core_laws.specs.Values.{Sketch, theta_of, count_of}
@@ -13,6 +14,7 @@ use Rattle.core_table.specs.HashTable.{empty_table, after_hash, after_hashes, af
 use Rattle.core_table.specs.HashTable.{trimmed_table}
 use Rattle.theta_sketches.specs.Image.{Reads, IsReadable, written}
 use Rattle.theta_sketches.specs.Streams.{IsSketchOf, GivesMore, GivesNothing}
+use Rattle.c_objects.specs.Buffer.{IsPut}
 use Rattle.c_objects.specs.Status.{IsUnreadStatus}
 use Rattle.c_objects.specs.Streams.{GivesHashes, GivesTrimmed, GivesAnew, HasSketch, IsReadAs}
 use Rattle.c_objects.specs.declared.compact.CompactSketch.{CompactSketch}
@@ -113,6 +115,18 @@ IsImageOf t image =
 -- the ordered compact form of a sketch
 abbrev pub IsCompactForm : SeededSketch → CompactSketch → Type 0
 IsCompactForm t s = IsAnswer hash_key (sketch_value t.sketch) t.sketch.map.seed_hash true s.sketch × HasSketch t.sketch s.sketch
+
+-- the hashes of a sketch were put into an array, each once, in some order; a handle without one is refused with 1, and nothing
+-- is written
+abbrev pub CopiesHashesOf : Option SeededSketch → (before : List ℕ) → (count_before status : ℕ) → (after : List ℕ) → (count : ℕ) → Type 0
+CopiesHashesOf None before count_before status after count = (status ≡ 1) × (after ≡ before) × (count ≡ count_before)
+CopiesHashesOf (Some t) before count_before status after count =
+    IsPut t.sketch.sequence before status after count × IsListing hash_key t.sketch.map.kept.entries t.sketch.sequence
+
+-- the same of a compact sketch, in its order
+abbrev pub CopiesHashes : Option CompactSketch → (before : List ℕ) → (count_before status : ℕ) → (after : List ℕ) → (count : ℕ) → Type 0
+CopiesHashes None before count_before status after count = (status ≡ 1) × (after ≡ before) × (count ≡ count_before)
+CopiesHashes (Some s) before count_before status after count = IsPut s.sketch.entries before status after count
 
 -- the sketch that bytes begin with, read under a seed
 abbrev pub IsReadFrom : (bytes : List ℕ) → (seed : ℕ) → CompactSketch → Type 0

@@ -1,17 +1,18 @@
 -- Calls on unions of theta sketches.
-use Rattle.std.specs.Prelude.{◌≡◌, ◌⊎◌, ℕ, List, true, not, None}
+use Rattle.std.specs.Prelude.{◌≡◌, ◌≢◌, ◌⊎◌, ◌^◌, ℕ, List, true, not, None}
 use Rattle.sketch_base.specs.Seed.{seed_hash}
 use Rattle.sketch_base.specs.declared.error.ErrorKind.{ErrorKind}
 use Rattle.core_compact.specs.CompactState.{Compact, IsAnswer, shown_of}
 use Rattle.core_laws.specs.Entries.{hash_key}
 use Rattle.core_laws.specs.Shown.{Shown, shown_value}
+use Rattle.core_laws.specs.Values.{cut_value}
 use Rattle.core_laws.specs.declared.TheConstants.{MAX_THETA}
 use Rattle.core_operators.specs.Union.{empty_union, union_value, update_refusal, failure, JoinsHashes, UnitesHashes}
 use Rattle.core_operators.specs.Union.{IsHashUpdateError, all_empty, update_all_refusal, JoinsAllHashes}
-use Rattle.core_operators.specs.Union.{UnitesAllHashes, IsHashUpdateAllError}
+use Rattle.core_operators.specs.Union.{UnitesAllHashes, IsHashUpdateAllError, lower_refusal, lower_allocates, lowered}
 use Rattle.theta_sketches.specs.Image.{written}
 use Rattle.c_objects.specs.Status.{status_of, IsRefusal}
-use Rattle.c_objects.specs.Streams.{IsUnionOfNone, GivesPart, GivesSketch, GivesParts, HasUnion, IsReadAs}
+use Rattle.c_objects.specs.Streams.{IsUnionOfNone, GivesPart, GivesSketch, GivesParts, GivesLowered, HasUnion, IsReadAs}
 use Rattle.c_objects.specs.Thetas.{OfSketch}
 use Rattle.c_objects.specs.declared.batch.SeededBatch.{SeededBatch}
 use Rattle.c_objects.specs.declared.compact.CompactSketch.{CompactSketch}
@@ -84,6 +85,17 @@ IsUnionImage u image = (s : Compact ℕ) × (image ≡ written s) × IsValueOf u
 -- the refusal of the result: 5 if the union has failed, and otherwise 3
 abbrev pub IsResultRefusal : SeededUnion → (status : ℕ) → Type 0
 IsResultRefusal u status = IsRefusal (failure u.union.failed) (not u.union.failed) status
+
+-- the union was lowered to 2^lg_k nominal entries, with status 0: its value is cut to those, and it was given nothing; or it
+-- refused, with 5 if it has failed, with 1 unless lg_k is from 4 to its own, and with 3, and is unchanged
+abbrev pub LowersUnion : (lg_k : ℕ) → (old : SeededUnion) → (status : ℕ) → (new : SeededUnion) → Type 0
+LowersUnion lg_k old status new =
+    (new.seed ≡ old.seed)
+    × (status ≡ 0 → (lower_refusal old.union lg_k ≡ None)
+    × (new.union ≡ lowered hash_key lg_k old.union)
+    × (union_value hash_key new.union ≡ cut_value hash_key (2 ^ lg_k) (union_value hash_key old.union))
+    × GivesLowered lg_k old.union new.union)
+    × (status ≢ 0 → IsRefusal (lower_refusal old.union lg_k) (lower_allocates old.union lg_k) status × (new.union ≡ old.union))
 
 -- the union is as when it was new
 abbrev pub ResetsUnion : (old : SeededUnion) → (status : ℕ) → (new : SeededUnion) → Type 0

@@ -1,9 +1,11 @@
 //! Compact theta sketches, which are immutable.
+ghost use Rattle.c_objects.specs.Buffer.{IsPut};
 ghost use Rattle.c_objects.specs.Intersection.{IsDifferenceOf, AreOfSeed, IsDifferenceRefusal};
 ghost use Rattle.c_objects.specs.Status.{IsMemoryRefusal};
 ghost use Rattle.c_objects.specs.Thetas.{compact_state, IsCompactImage, IsCopy, IsReadFrom, IsReadRefusal};
 ghost use Rattle.c_objects.specs.declared.compact.CompactSketch.{CompactSketch};
 
+use crate::entries::put_hashes;
 use crate::objects::{CanCopy, FromImage, HasDifference, HasImage, HasState};
 use crate::state::State;
 use crate::status::{OUT_OF_MEMORY, status_of};
@@ -87,4 +89,13 @@ impl HasDifference for CompactSketch {
             Err(error) => Err(status_of(error.kind())),
         }
     }
+}
+
+/// Copies the hashes of a sketch, in its order, to the front of an array, and writes how many they are. The status is
+/// `OK`, or `TOO_SMALL` if the array has no room for them.
+pub fn put_hashes_of(sketch: &CompactSketch, out: &mut [u64], count: &mut u64) -> u32
+    ensures { IsPut sketch.now.sketch.entries out.old result out.new count.new }
+{
+    let number = sketch.sketch.num_retained();
+    put_hashes(sketch.sketch.iter(), number, out, count)
 }

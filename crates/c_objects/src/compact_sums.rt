@@ -1,19 +1,18 @@
 //! Compact tuple sketches whose summaries are sums of 64 bits.
-ghost use Rattle.std.specs.Prelude.{◌≡◌, ◌≤◌, ◌++◌, None, length, drop, map};
-ghost use Rattle.core_slots.specs.Entry.{tuple_key};
 ghost use Rattle.c_objects.specs.Status.{IsMemoryRefusal};
 ghost use Rattle.c_objects.specs.SumsIntersection.{IsDifferenceOfSums, AreSumsOfSeed, IsSumsDifferenceRefusal};
 ghost use Rattle.c_objects.specs.CompactSums.{IsCompactSumsImage, IsSumsReadFrom, IsSumsReadRefusal};
-ghost use Rattle.c_objects.specs.CompactSums.{compact_sums_state, compact_total, PutsEntries};
+ghost use Rattle.c_objects.specs.CompactSums.{compact_sums_state, compact_total, IsCopyOfSums, PutsEntries};
 ghost use Rattle.c_objects.specs.declared.compact_sums.CompactSums.{CompactSums};
 
 use crate::bounds::{Wide, split};
-use crate::objects::{FromImage, HasDifference, HasImage, HasState, HasTotal};
+use crate::entries::put_entries;
+use crate::objects::{CanCopy, FromImage, HasDifference, HasImage, HasState, HasTotal};
 use crate::state::State;
-use crate::status::{OK, OUT_OF_MEMORY, TOO_SMALL, status_of};
+use crate::status::{OUT_OF_MEMORY, status_of};
 use std::alloc::Global;
 use totals::sum_of;
-use tuple_sketches::{CompactTupleSketch, TupleANotB, TupleEntry};
+use tuple_sketches::{CompactTupleSketch, TupleANotB};
 
 /// A compact sketch of sums.
 #[derive(Drop)]
@@ -69,6 +68,17 @@ impl HasImage for CompactSums {
     }
 }
 
+impl CanCopy for CompactSums {
+    ghost is_copy = { IsCopyOfSums };
+
+    fn copy(&self) -> Result<CompactSums, u32> {
+        match self.sketch.clone() {
+            Ok(sketch) => Ok(CompactSums { sketch }),
+            Err(_) => Err(OUT_OF_MEMORY),
+        }
+    }
+}
+
 impl HasDifference for CompactSums {
     ghost is_difference = { IsDifferenceOfSums };
 
@@ -93,33 +103,9 @@ impl HasDifference for CompactSums {
     }
 }
 
-/// The entries of a sketch, in its order.
-fn entries(sketch: &CompactSums) -> &[TupleEntry<u64>]
-    ensures { result.now ≡ sketch.now.sketch.entries }
-{
-    match sketch.sketch.iter().as_slice() {
-        Some(entries) => entries,
-        None => unreachable!(),
-    }
-}
-
-/// Copies the hashes and the sums of entries to the fronts of two arrays that have room for them.
-fn copy_entries(entries: &[TupleEntry<u64>], hashes: &mut [u64], sums: &mut [u64])
-    requires room_of_hashes { length entries.now ≤ length hashes.old }
-    requires room_of_sums { length entries.now ≤ length sums.old }
-    ensures hashes { hashes.new ≡ map tuple_key entries.now ++ drop (length entries.now) hashes.old }
-    ensures sums { sums.new ≡ map (λ e. e.summary) entries.now ++ drop (length entries.now) sums.old }
-{
-    for at in 0..entries.len() {
-        let entry = &entries[at];
-        hashes[at] = entry.hash();
-        sums[at] = *entry.summary();
-    }
-}
-
-/// Copies the hashes and the sums of a sketch to the fronts of two arrays, and writes how many they are. The status
-/// is `OK`, or `TOO_SMALL` if an array has no room for them.
-pub fn put_entries(
+/// Copies the hashes and the sums of a sketch, in its order, to the fronts of two arrays, and writes how many they
+/// are. The status is `OK`, or `TOO_SMALL` if an array has no room for them.
+pub fn put_entries_of(
     sketch: &CompactSums,
     hashes: &mut [u64],
     sums: &mut [u64],
@@ -127,11 +113,6 @@ pub fn put_entries(
 ) -> u32
     ensures { PutsEntries sketch.now.sketch.entries hashes.old sums.old result hashes.new sums.new count.new }
 {
-    let entries = entries(sketch);
-    *count = entries.len() as u64;
-    if hashes.len() < entries.len() || sums.len() < entries.len() {
-        return TOO_SMALL;
-    }
-    copy_entries(entries, hashes, sums);
-    OK
+    let number = sketch.sketch.num_retained();
+    put_entries(sketch.sketch.iter(), number, hashes, sums, count)
 }

@@ -1,8 +1,10 @@
 //! Settings of new objects.
-ghost use Rattle.std.specs.Prelude.{◌≡◌, ◌^◌, option_map};
+ghost use Rattle.std.specs.Prelude.{◌≡◌, ◌≤◌, ◌<◌, ◌^◌, option_map};
+ghost use Rattle.core_laws.specs.declared.TheConstants.{MAX_LG_K};
 ghost use Rattle.core_table.specs.ResizeFactor.{lg_of};
 ghost use Rattle.c_objects.specs.Settings.{valid_factor};
 
+use core_laws::MAX_LG_K;
 use theta_sketches::ResizeFactor;
 
 /// The resize factor of a number, 1, 2, 4 or 8; `None` for any other number.
@@ -15,5 +17,17 @@ pub fn factor_of(number: u32) -> Option<ResizeFactor>
         4 => Some(ResizeFactor::X4),
         8 => Some(ResizeFactor::X8),
         _ => None,
+    }
+}
+
+/// A binary logarithm of nominal entries as a byte. One that no union has, above `MAX_LG_K`, becomes another such.
+pub(crate) fn bounded_lg_k(lg_k: u32) -> u8
+    ensures valid { lg_k ≤ MAX_LG_K → result ≡ lg_k }
+    ensures great { MAX_LG_K < lg_k → MAX_LG_K < result }
+{
+    if lg_k > MAX_LG_K as u32 {
+        MAX_LG_K + 1
+    } else {
+        lg_k as u8
     }
 }

@@ -9,7 +9,12 @@ use std::alloc::Global;
 
 /// The hashes of strings that lie one after another in `bytes`, by where each ends. Refused with `OUT_OF_MEMORY`, and
 /// with `INVALID_ARGUMENT` if an end is below the one before it or past the bytes.
-fn hashes_of_strings(alloc: Global, seed: u64, bytes: &[u8], ends: &[u64]) -> Result<Vec<u64>, u32>
+pub(crate) fn hashes_of_strings(
+    alloc: Global,
+    seed: u64,
+    bytes: &[u8],
+    ends: &[u64],
+) -> Result<Vec<u64>, u32>
     ensures hashes { IfOk result (λ v. v.items ≡ string_hashes seed bytes.now 0 ends.now) }
     ensures valid { OnOk result (are_ends 0 (length bytes.now) ends.now ≡ true) }
     ensures refused { IfErr result (λ status.

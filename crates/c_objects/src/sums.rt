@@ -1,19 +1,25 @@
 //! Tuple sketches whose summaries are sums of 64 bits.
 ghost use Rattle.std.specs.Prelude.{true, IfOk};
+ghost use Rattle.core_laws.specs.Maps.{IsListing};
 ghost use Rattle.core_laws.specs.Refusal.{Refuses};
 ghost use Rattle.core_laws.specs.Settings.{settings_refusal};
+ghost use Rattle.core_slots.specs.Entry.{tuple_key};
+ghost use Rattle.c_objects.specs.CompactSums.{PutsEntries};
 ghost use Rattle.c_objects.specs.Status.{IsMemoryRefusal};
 ghost use Rattle.c_objects.specs.Sums.{IsNewSums, IsSameSums, AddsValue, AddsAtBytes, AddsAtNumber, TrimsSums};
-ghost use Rattle.c_objects.specs.Sums.{ResetsSums, sums_state, sums_total, IsImageOfSums, IsCompactFormOfSums};
+ghost use Rattle.c_objects.specs.Sums.{ResetsSums, sums_sketch, sums_state, sums_total, IsImageOfSums};
+ghost use Rattle.c_objects.specs.Sums.{IsCompactFormOfSums};
 ghost use Rattle.c_objects.specs.declared.sums.SeededSums.{SeededSums};
 
 use crate::bounds::{Wide, split};
 use crate::compact_sums::CompactSums;
+use crate::entries::put_entries;
 use crate::hashes::{hash_of_bytes, hash_of_number};
 use crate::objects::{CanCopy, CanReset, CanTrim, HasCompact, HasImage, HasState, HasTotal};
 use crate::state::State;
 use crate::status::{OK, OUT_OF_MEMORY, status_of};
-use sketch_base::Error;
+use core_laws::MAX_LG_K;
+use sketch_base::{Error, ErrorKind};
 use std::alloc::Global;
 use totals::sum_of;
 use tuple_sketches::{DefaultUpdatePolicy, ResizeFactor, TupleSketch, TupleSketchBuilder};
@@ -22,7 +28,7 @@ use tuple_sketches::{DefaultUpdatePolicy, ResizeFactor, TupleSketch, TupleSketch
 #[derive(Drop)]
 pub struct SeededSums {
     pub(crate) sketch: TupleSketch<DefaultUpdatePolicy<u64>>,
-    seed: u64,
+    pub(crate) seed: u64,
 }
 
 /// A new sketch of 2^`lg_k` nominal entries, `lg_k` from 4 to 26, whose slots grow by a resize factor and which
@@ -30,7 +36,7 @@ pub struct SeededSums {
 /// of the seed is 0, and with `OutOfMemory`.
 pub fn build(
     alloc: Global,
-    lg_k: u8,
+    lg_k: u32,
     factor: ResizeFactor,
     start: u64,
     seed: u64,
@@ -38,8 +44,11 @@ pub fn build(
     ensures made { IfOk result (λ t. IsNewSums lg_k start seed t) }
     ensures refused { Refuses result (settings_refusal lg_k start seed) true }
 {
+    if lg_k > MAX_LG_K as u32 {
+        return Err(Error::new(ErrorKind::InvalidArgument));
+    }
     let sketch = TupleSketchBuilder::new(DefaultUpdatePolicy::<u64>::default())
-        .lg_k(lg_k)
+        .lg_k(lg_k as u8)
         .resize_factor(factor)
         .starting_theta(start)
         .seed(seed)
@@ -76,6 +85,23 @@ pub fn add_at_bytes(sums: &mut SeededSums, bytes: &[u8], value: u64) -> u32
 {
     let hash = hash_of_bytes(sums.seed, bytes);
     add_at_hash(sums, hash, value)
+}
+
+/// Copies the hashes and the sums of a sketch, each once in some order, to the fronts of two arrays, and writes how
+/// many they are. The status is `OK`, or `TOO_SMALL` if an array has no room for them.
+pub fn put_entries_of(
+    sketch: &SeededSums,
+    hashes: &mut [u64],
+    sums: &mut [u64],
+    count: &mut u64,
+) -> u32
+    ensures put { PutsEntries (sums_sketch sketch.now).sequence hashes.old sums.old result hashes.new sums.new
+        count.new }
+    ensures each_once { IsListing tuple_key (sums_sketch sketch.now).map.kept.entries
+        (sums_sketch sketch.now).sequence }
+{
+    let number = sketch.sketch.num_retained();
+    put_entries(sketch.sketch.iter(), number, hashes, sums, count)
 }
 
 impl HasState for SeededSums {

@@ -2,21 +2,24 @@
 ghost use Rattle.std.specs.Prelude.{true, IfOk};
 ghost use Rattle.core_laws.specs.Refusal.{Refuses};
 ghost use Rattle.core_laws.specs.Settings.{settings_refusal};
-ghost use Rattle.core_laws.specs.declared.TheConstants.{MAX_THETA};
 ghost use Rattle.core_slots.specs.Entry.{tuple_key};
 ghost use Rattle.core_state.specs.View.{shows, sequence};
 ghost use Rattle.c_objects.specs.CompactSums.{OfSums, OfCompactSums, OfSumsImage};
 ghost use Rattle.c_objects.specs.SumsUnion.{IsNewSumsUnion, AddsShownSums, IsSumsUnionResult, IsSumsUnionImage};
-ghost use Rattle.c_objects.specs.SumsUnion.{IsSumsResultRefusal, ResetsSumsUnion};
+ghost use Rattle.c_objects.specs.SumsUnion.{IsSumsResultRefusal, LowersSumsUnion, ResetsSumsUnion};
 ghost use Rattle.c_objects.specs.declared.sums_union.SeededSumsUnion.{SeededSumsUnion};
 
 use crate::compact_sums::CompactSums;
 use crate::objects::{Accepts, AcceptsImages, CanReset, FromImage, HasCompact, HasImage};
+use crate::settings::bounded_lg_k;
 use crate::status::{OK, status_of};
 use crate::sums::SeededSums;
-use sketch_base::Error;
+use core_laws::MAX_LG_K;
+use sketch_base::{Error, ErrorKind};
 use std::alloc::Global;
-use tuple_sketches::{DefaultUnionPolicy, TupleSketchView, TupleUnion, TupleUnionBuilder};
+use tuple_sketches::{
+    DefaultUnionPolicy, ResizeFactor, TupleSketchView, TupleUnion, TupleUnionBuilder,
+};
 
 /// A union of sketches of sums, and the seed of its sketches.
 #[derive(Drop)]
@@ -25,17 +28,39 @@ pub struct SeededSumsUnion {
     seed: u64,
 }
 
-/// A new union of 2^`lg_k` nominal entries, `lg_k` from 4 to 26. Refused with `InvalidArgument` if `lg_k` is out of
-/// range or the hash of the seed is 0, and with `OutOfMemory`.
-pub fn build(alloc: Global, lg_k: u8, seed: u64) -> Result<SeededSumsUnion, Error>
-    ensures made { IfOk result (λ u. IsNewSumsUnion lg_k seed u) }
-    ensures refused { Refuses result (settings_refusal lg_k MAX_THETA seed) true }
+/// A new union of 2^`lg_k` nominal entries, `lg_k` from 4 to 26, whose slots grow by a resize factor and which begins
+/// at a theta from 1 to `MAX_THETA`. Refused with `InvalidArgument` if a setting is out of range or the hash of the
+/// seed is 0, and with `OutOfMemory`.
+pub fn build(
+    alloc: Global,
+    lg_k: u32,
+    factor: ResizeFactor,
+    start: u64,
+    seed: u64,
+) -> Result<SeededSumsUnion, Error>
+    ensures made { IfOk result (λ u. IsNewSumsUnion lg_k start seed u) }
+    ensures refused { Refuses result (settings_refusal lg_k start seed) true }
 {
+    if lg_k > MAX_LG_K as u32 {
+        return Err(Error::new(ErrorKind::InvalidArgument));
+    }
     let union = TupleUnionBuilder::new(DefaultUnionPolicy::<u64>::default())
-        .lg_k(lg_k)
+        .lg_k(lg_k as u8)
+        .resize_factor(factor)
+        .starting_theta(start)
         .seed(seed)
         .build(alloc)?;
     Ok(SeededSumsUnion { union, seed })
+}
+
+/// Lowers a union to 2^`lg_k` nominal entries, as `union::lower` does.
+pub fn lower(union: &mut SeededSumsUnion, lg_k: u32) -> u32
+    ensures { LowersSumsUnion lg_k union.old result union.new }
+{
+    match union.union.lower_lg_k(bounded_lg_k(lg_k)) {
+        Ok(()) => OK,
+        Err(error) => status_of(error.kind()),
+    }
 }
 
 #[tactic(auto, unfolding(crate::specs::SumsUnion::AddsShownSums))]

@@ -1,18 +1,23 @@
 //! Theta sketches that take updates.
 ghost use Rattle.std.specs.Prelude.{true, IfOk};
+ghost use Rattle.core_laws.specs.Entries.{hash_key};
+ghost use Rattle.core_laws.specs.Maps.{IsListing};
 ghost use Rattle.core_laws.specs.Refusal.{Refuses};
 ghost use Rattle.core_laws.specs.Settings.{settings_refusal};
+ghost use Rattle.c_objects.specs.Buffer.{IsPut};
 ghost use Rattle.c_objects.specs.Status.{IsMemoryRefusal};
 ghost use Rattle.c_objects.specs.Thetas.{IsNewSketch, IsSameSketch, UpdatesHash, UpdatesNumber, UpdatesBytes};
 ghost use Rattle.c_objects.specs.Thetas.{UpdatesHashes, Trims, Resets, theta_state, IsImageOf, IsCompactForm};
 ghost use Rattle.c_objects.specs.declared.theta.SeededSketch.{SeededSketch};
 
 use crate::compact::CompactSketch;
+use crate::entries::put_hashes;
 use crate::hashes::{hash_of_bytes, hash_of_number};
 use crate::objects::{CanCopy, CanReset, CanTrim, HasCompact, HasImage, HasState};
 use crate::state::State;
 use crate::status::{OK, OUT_OF_MEMORY};
-use sketch_base::Error;
+use core_laws::MAX_LG_K;
+use sketch_base::{Error, ErrorKind};
 use std::alloc::Global;
 use theta_sketches::{ResizeFactor, ThetaSketch, ThetaSketchBuilder};
 
@@ -28,7 +33,7 @@ pub struct SeededSketch {
 /// of the seed is 0, and with `OutOfMemory`.
 pub fn build(
     alloc: Global,
-    lg_k: u8,
+    lg_k: u32,
     factor: ResizeFactor,
     start: u64,
     seed: u64,
@@ -36,8 +41,11 @@ pub fn build(
     ensures made { IfOk result (λ t. IsNewSketch lg_k start seed t) }
     ensures refused { Refuses result (settings_refusal lg_k start seed) true }
 {
+    if lg_k > MAX_LG_K as u32 {
+        return Err(Error::new(ErrorKind::InvalidArgument));
+    }
     let sketch = ThetaSketchBuilder::default()
-        .lg_k(lg_k)
+        .lg_k(lg_k as u8)
         .resize_factor(factor)
         .starting_theta(start)
         .seed(seed)
@@ -84,6 +92,16 @@ pub fn update_hashes(theta: &mut SeededSketch, hashes: &[u64]) -> u32
         Ok(()) => OK,
         Err(_) => OUT_OF_MEMORY,
     }
+}
+
+/// Copies the hashes of a sketch, each once in some order, to the front of an array, and writes how many they are.
+/// The status is `OK`, or `TOO_SMALL` if the array has no room for them.
+pub fn put_hashes_of(sketch: &SeededSketch, out: &mut [u64], count: &mut u64) -> u32
+    ensures put { IsPut sketch.now.sketch.sequence out.old result out.new count.new }
+    ensures each_once { IsListing hash_key sketch.now.sketch.map.kept.entries sketch.now.sketch.sequence }
+{
+    let number = sketch.sketch.num_retained();
+    put_hashes(sketch.sketch.iter(), number, out, count)
 }
 
 impl HasState for SeededSketch {

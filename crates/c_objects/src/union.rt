@@ -6,16 +6,18 @@ ghost use Rattle.core_laws.specs.declared.TheConstants.{MAX_THETA};
 ghost use Rattle.theta_sketches.specs.View.{view_shows, view_sequence};
 ghost use Rattle.c_objects.specs.Thetas.{OfCompact, OfImage};
 ghost use Rattle.c_objects.specs.Union.{IsNewUnion, AddsShown, AddsUpdatable, AddsAll, AddsBatch, IsUnionResult};
-ghost use Rattle.c_objects.specs.Union.{IsUnionImage, IsResultRefusal, ResetsUnion};
+ghost use Rattle.c_objects.specs.Union.{IsUnionImage, IsResultRefusal, LowersUnion, ResetsUnion};
 ghost use Rattle.c_objects.specs.declared.union.SeededUnion.{SeededUnion};
 
 use crate::batch::SeededBatch;
 use crate::compact::CompactSketch;
 use crate::objects::{Accepts, AcceptsImages, CanReset, FromImage, HasCompact, HasImage};
+use crate::settings::bounded_lg_k;
 use crate::status::{OK, OUT_OF_MEMORY, status_of};
 use crate::theta::SeededSketch;
+use core_laws::MAX_LG_K;
 use keys_sketches::views_of;
-use sketch_base::Error;
+use sketch_base::{Error, ErrorKind};
 use std::alloc::Global;
 use theta_sketches::{CompactThetaSketch, ThetaSketchView, ThetaUnion, ThetaUnionBuilder};
 
@@ -28,15 +30,29 @@ pub struct SeededUnion {
 
 /// A new union of 2^`lg_k` nominal entries, `lg_k` from 4 to 26. Refused with `InvalidArgument` if `lg_k` is out of
 /// range or the hash of the seed is 0, and with `OutOfMemory`.
-pub fn build(alloc: Global, lg_k: u8, seed: u64) -> Result<SeededUnion, Error>
+pub fn build(alloc: Global, lg_k: u32, seed: u64) -> Result<SeededUnion, Error>
     ensures made { IfOk result (λ u. IsNewUnion lg_k seed u) }
     ensures refused { Refuses result (settings_refusal lg_k MAX_THETA seed) true }
 {
+    if lg_k > MAX_LG_K as u32 {
+        return Err(Error::new(ErrorKind::InvalidArgument));
+    }
     let union = ThetaUnionBuilder::default()
-        .lg_k(lg_k)
+        .lg_k(lg_k as u8)
         .seed(seed)
         .build(alloc)?;
     Ok(SeededUnion { union, seed })
+}
+
+/// Lowers a union to 2^`lg_k` nominal entries. The status is `OK`; or `FAILED` if it has failed, `INVALID_ARGUMENT`
+/// unless `lg_k` is from 4 to its own, or `OUT_OF_MEMORY`, and then nothing has changed.
+pub fn lower(union: &mut SeededUnion, lg_k: u32) -> u32
+    ensures { LowersUnion lg_k union.old result union.new }
+{
+    match union.union.lower_lg_k(bounded_lg_k(lg_k)) {
+        Ok(()) => OK,
+        Err(error) => status_of(error.kind()),
+    }
 }
 
 fn add(union: &mut SeededUnion, view: ThetaSketchView<'_, Global>) -> u32

@@ -1,0 +1,39 @@
+-- Many values at a call, for sketches of sums.
+use Rattle.std.specs.Prelude.{◌≡◌, ◌≢◌, ◌⊎◌, ◌+◌, ℕ, true, false, List, [], ◌∷◌, length}
+use Rattle.core_slots.specs.declared.entry.TupleEntry.{TupleEntry}
+use Rattle.core_state.specs.Updatable.{Updatable}
+use Rattle.c_objects.specs.Strings.{are_ends, string_hashes}
+use Rattle.c_objects.specs.Sums.{sums_sketch, AcceptsValue, RefusesValue}
+use Rattle.c_objects.specs.declared.sums.SeededSums.{SeededSums}
+
+-- a sketch of sums is as before
+abbrev pub IsAsBefore : (old new : Updatable (TupleEntry ℕ)) → Type 0
+IsAsBefore old new = (new.empty ≡ old.empty) × (new.map ≡ old.map)
+
+-- values were added at hashes in their order, up to the first that was refused, which left the sketch as it was; the status is
+-- that of its refusal, or 0 if none was refused. So many were added
+abbrev pub AddsInTurn : (hashes values : List ℕ) → (old : Updatable (TupleEntry ℕ)) → (status : ℕ) → (new : Updatable (TupleEntry ℕ)) → (added : ℕ) → Type 0
+AddsInTurn [] values old status new added = (status ≡ 0) × (added ≡ 0) × IsAsBefore old new
+AddsInTurn (h ∷ hs) [] old status new added = (status ≡ 0) × (added ≡ 0) × IsAsBefore old new
+AddsInTurn (h ∷ hs) (v ∷ vs) old status new added =
+    ((status ≢ 0) × (added ≡ 0) × RefusesValue h v old status × IsAsBefore old new)
+    ⊎ ((next : Updatable (TupleEntry ℕ)) × (more : ℕ) × AcceptsValue h v old next × AddsInTurn hs vs next status new more × (added ≡ 1 + more))
+
+-- values were added at hashes, in their order; or there are more of the one than of the other, which is refused with 1, and
+-- none was added
+abbrev pub AddsValues : (hashes values : List ℕ) → (added : ℕ) → (old : SeededSums) → (status : ℕ) → (new : SeededSums) → Type 0
+AddsValues hashes values added old status new =
+    (length hashes ≡ length values → (new.seed ≡ old.seed) × AddsInTurn hashes values (sums_sketch old) status (sums_sketch new) added)
+    × (length hashes ≢ length values → (status ≡ 1) × (new ≡ old) × (added ≡ 0))
+
+-- values were added at strings by their hashes, as `AddsValues` says of those; or memory for the hashes was refused, with 3, or
+-- the ends are out of range, with 1, and none was added
+abbrev pub AddsAtStrings : (bytes ends values : List ℕ)
+    → (added : ℕ)
+    → (old : SeededSums)
+    → (status : ℕ)
+    → (new : SeededSums)
+    → Type 0
+AddsAtStrings bytes ends values added old status new =
+    ((are_ends 0 (length bytes) ends ≡ true) × AddsValues (string_hashes old.seed bytes 0 ends) values added old status new)
+    ⊎ ((new ≡ old) × (added ≡ 0) × ((status ≡ 3) ⊎ ((status ≡ 1) × (are_ends 0 (length bytes) ends ≡ false))))
