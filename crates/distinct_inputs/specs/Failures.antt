@@ -28,6 +28,7 @@ use Rattle.distinct_arguments.specs.declared.commands.Operator.TheVariants.{Unio
 use Rattle.keys_groups.specs.United.{HasFirstFlawed}
 use Rattle.keys_groups.specs.declared.united.LineFlaw.{LineFlaw}
 use Rattle.keys_groups.specs.declared.united.LineFlaw.TheVariants.{NoTab as NoTabAtAll, NoHex as NoDigits, NoImage}
+use Rattle.distinct_messages.specs.Failures.{display_name}
 use Rattle.distinct_messages.specs.declared.failure.Failure.{Failure}
 use Rattle.distinct_messages.specs.declared.failure.Failure.TheVariants.{Arguments, NotTwo, NoDir, NoName, NoNul, NoSeed}
 use Rattle.distinct_messages.specs.declared.failure.Failure.TheVariants.{WrongCount, Memory, Unreadable}
