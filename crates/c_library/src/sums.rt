@@ -1,11 +1,11 @@
 //! Tuple sketches whose summaries are sums of 64 bits.
-ghost use Rattle.std.specs.Prelude.{◌≡◌, true, None, option_map};
+ghost use Rattle.std.specs.Prelude.{◌≡◌, true, None, is_some, option_map};
 ghost use Rattle.core_laws.specs.declared.TheConstants.{MAX_THETA};
 ghost use Rattle.c_objects.specs.Bounds.{is_state, wide};
 ghost use Rattle.c_objects.specs.Buffer.{WritesOf};
 ghost use Rattle.c_handles.specs.Calls.{OnObject, Fills, FillsFrom, WritesValue};
 ghost use Rattle.c_objects.specs.CompactSums.{CopiesEntriesOf};
-ghost use Rattle.c_objects.specs.Settings.{IsSettingsRefusal, IsNewRefusal};
+ghost use Rattle.c_objects.specs.Settings.{IsSettingsRefusal, IsNewRefusal, valid_factor};
 ghost use Rattle.c_objects.specs.Status.{IsMemoryRefusal};
 ghost use Rattle.c_objects.specs.Sums.{IsNewSums, IsSameSums, AddsValue, AddsAtBytes, AddsAtNumber, TrimsSums};
 ghost use Rattle.c_objects.specs.Sums.{ResetsSums, sums_state, sums_total, IsImageOfSums, IsCompactFormOfSums};
@@ -38,8 +38,9 @@ pub extern "C" fn kcp_sums_new_with(
     resize_factor: u32,
     starting_theta: u64,
 ) -> u32
-    ensures { Fills (IsNewSums lg_k starting_theta seed) (IsNewRefusal lg_k resize_factor starting_theta seed)
+    ensures made { Fills (IsNewSums lg_k starting_theta seed) (IsNewRefusal lg_k resize_factor starting_theta seed)
         sums.old.value result sums.new.value }
+    ensures factor { result ≡ 0 → is_some (valid_factor resize_factor) ≡ true }
 {
     match factor_of(resize_factor) {
         Some(factor) => sums

@@ -1,10 +1,10 @@
 //! Theta sketches that take updates.
-ghost use Rattle.std.specs.Prelude.{◌≡◌, true, None, Some, option_map};
+ghost use Rattle.std.specs.Prelude.{◌≡◌, true, None, Some, is_some, option_map};
 ghost use Rattle.core_laws.specs.declared.TheConstants.{MAX_THETA};
 ghost use Rattle.c_objects.specs.Bounds.{is_state};
 ghost use Rattle.c_objects.specs.Buffer.{WritesOf};
 ghost use Rattle.c_handles.specs.Calls.{OnObject, Fills, FillsFrom, WritesValue};
-ghost use Rattle.c_objects.specs.Settings.{IsSettingsRefusal, IsNewRefusal};
+ghost use Rattle.c_objects.specs.Settings.{IsSettingsRefusal, IsNewRefusal, valid_factor};
 ghost use Rattle.c_objects.specs.Status.{IsMemoryRefusal};
 ghost use Rattle.c_objects.specs.Thetas.{IsNewSketch, IsSameSketch, UpdatesHash, UpdatesNumber, UpdatesBytes};
 ghost use Rattle.c_objects.specs.Thetas.{CopiesHashesOf, UpdatesHashes, Trims, Resets, theta_state, IsImageOf, IsCompactForm};
@@ -51,8 +51,9 @@ pub extern "C" fn kcp_theta_new_with(
     resize_factor: u32,
     starting_theta: u64,
 ) -> u32
-    ensures { Fills (IsNewSketch lg_k starting_theta seed) (IsNewRefusal lg_k resize_factor starting_theta seed)
+    ensures made { Fills (IsNewSketch lg_k starting_theta seed) (IsNewRefusal lg_k resize_factor starting_theta seed)
         sketch.old.value result sketch.new.value }
+    ensures factor { result ≡ 0 → is_some (valid_factor resize_factor) ≡ true }
 {
     match factor_of(resize_factor) {
         Some(factor) => sketch

@@ -50,9 +50,10 @@ AddsShownSums shown listing old status new =
     × (((status ≡ 0) × MergesSums shown listing (sums_union_of old) (sums_union_of new))
     ⊎ ((e : ErrorKind) × (status ≡ status_of e) × IsSumsMergeError shown listing (sums_union_of old) (sums_union_of new) e))
 
--- an ordered compact sketch of the union's value
+-- an ordered compact sketch of the union's value; the union hasn't failed
 abbrev pub IsValueOfSums : SeededSumsUnion → Compact (TupleEntry ℕ) → Type 0
-IsValueOfSums u s = IsAnswer tuple_key (union_value tuple_key (sums_union_of u)) (sums_union_of u).seed_hash true s
+IsValueOfSums u s =
+    (failure (sums_union_of u).failed ≡ None) × IsAnswer tuple_key (union_value tuple_key (sums_union_of u)) (sums_union_of u).seed_hash true s
 
 -- the union's value as an ordered compact sketch
 abbrev pub IsSumsUnionResult : SeededSumsUnion → CompactSums → Type 0

@@ -28,7 +28,8 @@ abbrev pub UpdatesText : (piece : List ℕ)
     → Type 0
 UpdatesText piece old_text old status new_text new =
     RefusesText old_text old status new_text new
-    ⊎ ((new.seed ≡ old.seed)
+    ⊎ ((old_text.hashing.seed ≡ old.seed)
+    × (new.seed ≡ old.seed)
     × (new_text.hashing ≡ old_text.hashing)
     × (((status ≡ 0) × ((start : LineState) (text : List ℕ)
     → HasInserted start text (line_state old.sketch) old_text → HasInserted start (text ++ piece) (line_state new.sketch) new_text))
@@ -39,7 +40,8 @@ UpdatesText piece old_text old status new_text new =
 abbrev pub EndsText : (old_text : OpenText) → (old : SeededSketch) → (status : ℕ) → (new_text : OpenText) → (new : SeededSketch) → Type 0
 EndsText old_text old status new_text new =
     RefusesText old_text old status new_text new
-    ⊎ ((new.seed ≡ old.seed)
+    ⊎ ((old_text.hashing.seed ≡ old.seed)
+    × (new.seed ≡ old.seed)
     × (((status ≡ 0) × IsAtStart old_text.hashing new_text
     × ((start : LineState) (text : List ℕ) → HasInserted start text (line_state old.sketch) old_text
     → line_state new.sketch ≡ with_lines old_text.hashing start (lines_of text)))

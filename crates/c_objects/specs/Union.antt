@@ -70,9 +70,10 @@ AddsAll sketches old status new =
 abbrev pub AddsBatch : SeededBatch → (old : SeededUnion) → (status : ℕ) → (new : SeededUnion) → Type 0
 AddsBatch batch old status new = AddsAll batch.sketches.items old status new
 
--- an ordered compact sketch of the union's value, with the least hashes of what the union was given
+-- an ordered compact sketch of the union's value, with the least hashes of what the union was given; the union hasn't failed
 abbrev pub IsValueOf : SeededUnion → Compact ℕ → Type 0
-IsValueOf u s = IsAnswer hash_key (union_value hash_key u.union) u.union.seed_hash true s × HasUnion u.union s
+IsValueOf u s =
+    (failure u.union.failed ≡ None) × IsAnswer hash_key (union_value hash_key u.union) u.union.seed_hash true s × HasUnion u.union s
 
 -- the union's value as an ordered compact sketch
 abbrev pub IsUnionResult : SeededUnion → CompactSketch → Type 0
