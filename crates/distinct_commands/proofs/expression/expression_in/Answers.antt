@@ -3,4 +3,4 @@ use Rattle.expression_text.specs.Grammar.{SpellsNothing}
 use Rattle.distinct_commands.proofs.expression.expression_in.Goals as goal
 
 pub syntax_failure-requires : goal.syntax_failure-requires
-syntax_failure-requires c = λ other. subst SpellsNothing c.as_bytes.ensures.value (c.in-Err.ensures.syntax_failure other)
+syntax_failure-requires c = λ other. subst SpellsNothing c.as_bytes.ensures.value (c.in-Err.ensures.unspelled other)

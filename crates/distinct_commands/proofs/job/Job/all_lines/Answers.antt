@@ -10,15 +10,15 @@ use Rattle.distinct_commands.proofs.OnlyMemory.{seeded-more}
 use Rattle.distinct_commands.proofs.Evaluated.{sketches_more}
 use Rattle.distinct_commands.proofs.job.Job.all_lines.Goals as goal
 
-pub sketch_each-preserved : goal.sketch_each-preserved
-sketch_each-preserved g c =
+pub loop-preserved : goal.loop-preserved
+loop-preserved g c =
     let options = options_of c.args.self.options.now in
     let old = g.S.Sources.texts c.args.self.inputs.sources in
-    let now = g.S.Sources.texts c.sketch_each.inputs.sources in
+    let now = g.S.Sources.texts c.loop.inputs.sources in
     let new = g.S.Sources.texts c.next_lines.new.inputs.sources in
     let seed : c.in-Some.sketch.seed_hash ≡ seed_hash c.args.self.seed = subst (λ (o : Option (Compact ℕ)). IfSome o (λ s. s.seed_hash ≡ seed_hash c.args.self.seed)) c.in-Some.is c.in_ok-sketch.ensures.seeded in
     record {
-      seeded = subst (AreSeeded c.args.self.seed) (sym c.in_ok-push-in-Some.ensures.items) (seeded-more c.args.self.seed c.sketch_each.sketches.items c.in-Some.sketch c.sketch_each.invariant.seeded seed);
+      seeded = subst (AreSeeded c.args.self.seed) (sym c.in_ok-push-in-Some.ensures.items) (seeded-more c.args.self.seed c.loop.sketches.items c.in-Some.sketch c.loop.invariant.seeded seed);
       sketched = subst (λ (items : List (Compact ℕ)). Continues old new (λ taken. AreSketchesOfTexts options c.args.self.seed taken items)) (sym c.in_ok-push-in-Some.ensures.items)
-          (sketches_more options c.args.self.seed old now new _ c.in-Some.sketch c.sketch_each.sketches.items c.sketch_each.invariant.sketched c.in_ok-sketch.ensures.sketches c.in-Some.is);
+          (sketches_more options c.args.self.seed old now new _ c.in-Some.sketch c.loop.sketches.items c.loop.invariant.sketched c.in_ok-sketch.ensures.sketches c.in-Some.is);
     }
