@@ -69,12 +69,17 @@ def entry_hash(word):
     return hash
 
 
-def image_words(digits, longs, own_hash):
-    """The bytes, the preamble longs and the seed hash of a reader, under its conditions."""
-    data, longs, own_hash = octets(digits), number(longs, 8), number(own_hash, 16)
-    if len(data) < 8 or not 1 <= longs <= 3:
-        raise Condition
-    return data, longs, own_hash
+def image_text(kind, data, seed):
+    """The length of an image, its number of entries, whether bytes follow, its layout and the flaw of bytes that aren't one image."""
+    own_hash = seed_hash(seed)
+    told = read_images.told(kind, data)
+    flaw = read_images.flaw_of(kind, data, own_hash)
+    if told is None:
+        return f"none 0 alone none {flaw}"
+    layout = "none"
+    if read_images.preamble_flaw(kind, data, own_hash) is None:
+        layout = "empty" if told.is_empty else preamble_text(told.start // 8, told.count, told.theta, told.ordered)
+    return f"{told.length} {told.count} {'longer' if told.length < len(data) else 'alone'} {layout} {flaw}"
 
 
 class Base:
@@ -185,18 +190,11 @@ class Base:
     def do_announced(self, longs, count, theta, flag):
         return preamble_text(number(longs, 8), number(count, 32), number(theta), is_ordered(flag)), "0"
 
-    def do_admitted(self, longs, count, theta, flag):
-        text = self.do_announced(longs, count, theta, flag)[0]
-        return text if 1 <= number(theta) <= MAX_THETA else "none", "0"
+    def do_theta_image(self, digits, seed):
+        return image_text("theta", octets(digits), number(seed)), "0"
 
-    def do_layout(self, digits, longs, own_hash):
-        data, longs, own_hash = image_words(digits, longs, own_hash)
-        if data[5] & read_images.EMPTY:
-            return "empty", "0"
-        theta = int.from_bytes(data[16:24], "little") if longs == 3 else MAX_THETA
-        count = int.from_bytes(data[8:12], "little") if longs > 1 else 1
-        is_read = len(data) >= 8 * longs and int.from_bytes(data[6:8], "little") == own_hash and 1 <= theta <= MAX_THETA
-        return preamble_text(longs, count, theta, data[5] & read_images.ORDERED != 0) if is_read else "none", "0"
+    def do_tuple_image(self, digits, seed):
+        return image_text("u64", octets(digits), number(seed)), "0"
 
     def do_see(self):
         return "ok", "0"
@@ -306,26 +304,26 @@ for name in ("u8", "u16", "u32", "u64", "i32", "i64"):
 
 
 class Images:
-    """Reads entries behind a preamble."""
+    """Reads images by their heads."""
 
     made_memory = "0"
 
     def __init__(self, words):
         no_settings(words)
 
-    def read(self, kind, words):
-        data, longs, own_hash = image_words(*words)
+    def read(self, kind, digits, seed):
+        data, own_hash = octets(digits), seed_hash(number(seed))
         try:
-            held = read_images.flagged(kind, data, longs, own_hash)
+            held = read_images.held_by(kind, data, own_hash)
         except read_images.Refused:
-            raise Refusal("data") from None
+            return f"flawed {read_images.flaw_of(kind, data, own_hash, alone=False)}", ANY
         return state_text(Compact(held, own_hash, kind), ascending=False), ANY
 
-    def do_read(self, digits, longs, own_hash):
-        return self.read("theta", (digits, longs, own_hash))
+    def do_read(self, digits, seed):
+        return self.read("theta", digits, seed)
 
-    def do_read_u64(self, digits, longs, own_hash):
-        return self.read("u64", (digits, longs, own_hash))
+    def do_read_u64(self, digits, seed):
+        return self.read("u64", digits, seed)
 
     def do_see(self):
         return "ok", "0"

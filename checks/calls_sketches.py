@@ -5,8 +5,9 @@ Each object has its calls as methods that begin with `do_`. Such a call has the 
 and the requests for memory: "0" for none, "+" for at least one, ANY if the specification doesn't say.
 """
 import model_distinct
+import read_images
 from calls_words import ANY, FEW, Condition, Unknown, keys, number, octets, operand, outcome, repeated, series, settings_of, with_value
-from model_hash import DEFAULT_SEED, hash_of
+from model_hash import DEFAULT_SEED, hash_of, seed_hash
 from model_operators import Intersection, Union, difference
 from model_policies import Letters, Sums, policy_of
 from model_sketches import Compact, Sketch, decimal, decimal_text, fraction, read_image
@@ -379,6 +380,20 @@ class Reading:
 
     def read(self, kind, digits):
         return outcome(read_image, kind, octets(digits), DEFAULT_SEED).replace("ok", "read") + f" {FEW}", ANY
+
+    def length(self, kind, digits):
+        data, own_hash = octets(digits), seed_hash(DEFAULT_SEED)
+        try:
+            read_images.held_by(kind, data, own_hash)
+        except read_images.Refused:
+            return f"flawed {read_images.flaw_of(kind, data, own_hash, alone=False)}", ANY
+        return str(read_images.told(kind, data).length), ANY
+
+    def do_theta_length(self, digits):
+        return self.length("theta", digits)
+
+    def do_u64_length(self, digits):
+        return self.length("u64", digits)
 
     def do_see(self):
         return "ok", "0"

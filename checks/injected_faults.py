@@ -385,15 +385,15 @@ def fail_reads(faults, name, folder):
         found = faults.run("distinct", *arguments, data=data, folder=folder, piece=40, read=read, error=error)
         what = f"distinct, {name}, read {read} fails with {errno.errorcode[error]}"
         check(what, (*answer_of(found), found.log["writes"], found.log["after"]), (1, b"", 0, 0))
-        check(f"{what}, its message", said_of(found.err), f"{os.strerror(error)} (os error {error})")
+        check(f"{what}, its message", said_of(found.err), os.strerror(error))
     for number in range(1, pieces["opens"] + 1):
         found = faults.run("distinct", *arguments, data=data, folder=folder, open=number)
-        check(f"distinct, {name}, file {number} can't be opened", (answer_of(found), said_of(found.err)), ((1, b""), f"{os.strerror(errno.EIO)} (os error {errno.EIO})"))
+        check(f"distinct, {name}, file {number} can't be opened", (answer_of(found), said_of(found.err)), ((1, b""), os.strerror(errno.EIO)))
     for error, write in itertools.product((errno.EIO, errno.ENOSPC), some_of(pieces["writes"])):
         found = faults.run("distinct", *arguments, data=data, folder=folder, piece=40, write=write, error=error)
         what = f"distinct, {name}, write {write} fails with {errno.errorcode[error]}"
         check(what, (*answer_of(found), found.log["writes"]), (1, whole.out[: 40 * (write - 1)], write))
-        check(f"{what}, its message", said_of(found.err), f"{os.strerror(error)} (os error {error})")
+        check(f"{what}, its message", said_of(found.err), os.strerror(error))
 
 
 def said_of(message):

@@ -10,7 +10,7 @@ import subprocess
 import sys
 
 PACKAGES = {
-    "c": ["gcc", "g++", "clang", "libc6-dev", "make", "pkg-config", "valgrind"],
+    "c": ["gcc", "g++", "clang", "libclang-rt-14-dev", "libc6-dev", "make", "pkg-config", "valgrind"],
     "python": [
         "gcc", "libc6-dev", "make", "python3-dev", "python3-setuptools", "python3-wheel", "python3-venv", "python3-pytest", "python3-numpy",
         "python3-pandas", "python3-dask", "mypy",
@@ -18,6 +18,7 @@ PACKAGES = {
     "rust": ["gcc", "libc6-dev", "make"],
     "sqlite": ["sqlite3", "libsqlite3-dev"],
     "postgresql": ["postgresql-15", "postgresql-server-dev-15"],
+    "bench": ["postgresql-15-hll"],
     "packages": [
         "build-essential", "debhelper", "dh-python", "dpkg-dev", "libsqlite3-dev", "postgresql-server-dev-15", "python3-dev",
         "python3-setuptools", "python3-wheel", "lintian", "man-db", "mandoc", "mmdebstrap",

@@ -7,6 +7,8 @@ the message, if a file's contents are at fault. It doesn't know the messages of 
 texts of --help and --version. It shares no code with the program.
 """
 import collections
+import functools
+import io
 import json
 import math
 import os
@@ -21,19 +23,22 @@ MAX_THETA = 2**63 - 1
 DEFAULT_SEED = 9001
 M64 = 2**64 - 1
 
-LINES = "-C --lg-k --field --separator --seed --seed-file --files0-from --progress "
+LINES = "-C --lg-k --field --separator --seed --seed-file --files0-from --part --progress "
 OPTIONS = {
-    "count": LINES + "--by --sort --bounds --tsv --json",
-    "sketch": LINES + "--by --value --visits --hex --output --output-dir",
+    "count": LINES + "--by --sort --bounds --human --tsv --json",
+    "sketch": LINES + "--by --value --visits --hex --output --output-dir --force",
     "union": "-C --lg-k --seed --seed-file --files0-from --expect --hex --groups --sums --output",
     "meet": "-C --seed --seed-file --files0-from --expect --hex --output",
     "minus": "-C --seed --seed-file --hex --output",
     "show": "-C --seed --seed-file --files0-from --hex --bounds --tsv --json",
-    "eval": "-C --lg-k --seed --seed-file --keys --sums --field --separator --bounds --tsv --json --hex --output",
-    "visits": "-C --lg-k --field --separator --sums --hex --seed --seed-file --files0-from --bounds --tsv --json",
-    "sum": "-C --value --lg-k --field --separator --seed --seed-file --files0-from --tsv --json",
+    "eval": "-C --lg-k --seed --seed-file --keys --sums --field --separator --bounds --tsv --json --hex --output --force",
+    "visits": "-C --lg-k --field --separator --sums --hex --seed --seed-file --files0-from --part --bounds --tsv --json",
+    "sum": "-C --value --lg-k --field --separator --seed --seed-file --files0-from --part --tsv --json",
 }
-FLAGS = ("--hex", "--groups", "--sums", "--visits", "--progress", "--keys")
+OPTIONS = {command: f"{options} --quiet" for command, options in OPTIONS.items()}
+FLAGS = ("--hex", "--groups", "--sums", "--visits", "--progress", "--keys", "--force", "--quiet", "--human")
+# Short names of options with a value, which may be attached to them.
+SHORT = {"-k": "--lg-k", "-f": "--field", "-d": "--separator", "-o": "--output"}
 FAMILIES = (
     "Alpha sketches,update sketches,theta sketches,unions,intersections,differences,HLL sketches,quantiles sketches,"
     "tuple sketches,frequency sketches,reservoirs,unions of reservoirs,VarOpt sketches,unions of VarOpt sketches,KLL sketches,"
@@ -218,8 +223,8 @@ def image_of(sketch, own_hash, of_sums=False):
 
 
 def sums_length(image):
-    """The length of the image of sums that the bytes begin, or None if its preamble isn't known or isn't whole."""
-    if len(image) < 8 or not 1 <= image[0] <= 3 or image[1] not in (1, 3):
+    """The length of the image of sums that the bytes begin, or None if they don't begin with its whole preamble."""
+    if len(image) < 8 or not 1 <= image[0] <= 3 or image[1] not in (1, 3) or image[2] != 9 or image[3] not in (1, 5):
         return None
     start = 8 if image[5] & 4 else 8 * image[0]
     if len(image) < start:
@@ -241,13 +246,18 @@ def sums_flaw_of(image, own_hash):
         return f"is of version {image[1]}; versions 1 and 3 are read: write it in version 3"
     if image[5] & 1:
         return "is in big-endian order: write it in little-endian order"
-    if not image[5] & 4 and struct.unpack_from("<H", image, 6)[0] != own_hash:
-        return "was made with another seed: pass that --seed"
-    if not 1 <= image[0] <= 3 or image[3] not in (1, 5) or length == len(image):
-        return "is damaged (its preamble, sketch type, theta or hashes are not valid): copy or make it again"
+    damaged = "is damaged (its preamble, sketch type, theta or hashes are not valid): copy or make it again"
+    if not 1 <= image[0] <= 3 or image[3] not in (1, 5):
+        return damaged
     if length is None or length > len(image):
         return "is cut short: copy or make it again"
-    return "has bytes after its image: a file has one image, or with --hex one per line"
+    if not image[5] & 4 and struct.unpack_from("<H", image, 6)[0] != own_hash:
+        return "was made with another seed: pass that --seed"
+    if not image[5] & 4 and image[0] == 3 and not 1 <= struct.unpack_from("<Q", image, 16)[0] <= MAX_THETA:
+        return damaged
+    if length < len(image):
+        return "has bytes after its image: a file has one image, or with --hex one per line"
+    return damaged
 
 
 def sums_of_image(image, own_hash):
@@ -276,8 +286,8 @@ def preamble_length(image):
 
 
 def image_length(image):
-    """The length of the image that the bytes begin, or None if its preamble isn't known or isn't whole."""
-    if len(image) < 8 or not (1 <= image[0] <= 3 and 1 <= image[1] <= 3) or len(image) < preamble_length(image):
+    """The length of the image that the bytes begin, or None if they don't begin with the whole preamble of a theta sketch's."""
+    if len(image) < 8 or not (1 <= image[0] <= 3 and 1 <= image[1] <= 3 and image[2] == 3) or len(image) < preamble_length(image):
         return None
     if is_flagged_empty(image):
         return 8
@@ -311,13 +321,18 @@ def flaw_of(image, own_hash):
         return f"is of version {image[1]}; versions 1 to 3 are read: write it in version 3, uncompressed"
     if image[1] == 3 and image[5] & 1:
         return "is in big-endian order: write it in little-endian order"
-    if image[1] > 1 and not is_empty(image) and struct.unpack_from("<H", image, 6)[0] != own_hash:
-        return "was made with another seed: pass that --seed"
-    if not 1 <= image[0] <= 3 or length == len(image):
-        return "is damaged (its preamble, theta or hashes are not valid): copy or make it again"
+    damaged = "is damaged (its preamble, theta or hashes are not valid): copy or make it again"
+    if not 1 <= image[0] <= 3:
+        return damaged
     if length is None or length > len(image):
         return "is cut short: copy or make it again"
-    return "has bytes after its image: a file has one image, or with --hex one per line"
+    if image[1] > 1 and not is_empty(image) and struct.unpack_from("<H", image, 6)[0] != own_hash:
+        return "was made with another seed: pass that --seed"
+    if not is_empty(image) and not 1 <= theta_of(image) <= MAX_THETA:
+        return damaged
+    if length < len(image):
+        return "has bytes after its image: a file has one image, or with --hex one per line"
+    return damaged
 
 
 def sketch_of_image(image, own_hash):
@@ -383,11 +398,20 @@ def printed_ranges(rows, options):
     return "".join(f"{name}: {' '.join(str(row[it]) for it in shown)}\n" for name, (_, row) in zip(names, rows))
 
 
-def printed_total(sketch, options):
-    """The answer of `sum` on a sketch of sums."""
+def scaled(number, theta):
+    """A number of what is retained, as that of all: times the greatest theta over theta, to the nearest."""
+    return (2 * number * MAX_THETA + theta) // (2 * theta)
+
+
+def printed_total(sketch, options, exact_total=None):
+    """The answer of `eval --sums` on a sketch of sums, or of `sum`, which has the exact total of its lines."""
     sums, theta = sketch or ({}, MAX_THETA)
-    total = (2 * sum(sums.values()) * MAX_THETA + theta) // (2 * theta)
-    row = dict(total=total, exact=theta == MAX_THETA, retained=len(sums), theta=theta)
+    if exact_total is None:
+        total = scaled(sum(sums.values()), theta)
+        row = dict(total=total, exact=theta == MAX_THETA, retained=len(sums), theta=theta)
+    else:
+        total = exact_total
+        row = dict(total=total, keys=scaled(len(sums), theta), exact=theta == MAX_THETA, retained=len(sums), theta=theta)
     if options["form"] == "--tsv":
         return "\t".join(row) + "\n" + "\t".join(json.dumps(it) for it in row.values()) + "\n"
     return json.dumps(row, separators=(",", ":")) + "\n" if options["form"] else f"{total}\n"
@@ -399,7 +423,23 @@ def escaped(name):
     return re.sub(r"[\0-\x1f\x7f-\x9f]", lambda it: short.get(it[0], r"\u{%x}" % ord(it[0])), name)
 
 
+def shown_name(name):
+    """A name as answers have it: backslashes are doubled, control characters are escaped, and all bytes above 127 if it isn't UTF-8."""
+    data = name.encode() if isinstance(name, str) else name
+    short = {9: r"\t", 10: r"\n", 13: r"\r", 92: r"\\"}
+
+    def spelled(text):
+        return "".join(rf"\x{it:02x}" for it in text)
+
+    try:
+        text = data.decode()
+    except UnicodeDecodeError:
+        return "".join(short.get(it) or (chr(it) if 32 <= it < 127 else spelled([it])) for it in data)
+    return re.sub(r"[\\\0-\x1f\x7f-\x9f]", lambda it: short.get(ord(it[0])) or spelled(it[0].encode()), text)
+
+
 def json_string(name):
+    name = name if isinstance(name, str) else name.decode(errors="replace")
     name = re.sub(r'["\\]', lambda it: "\\" + it[0], name)
     return '"' + re.sub(r"[\0-\x1f]", lambda it: r"\u%04x" % ord(it[0]), name) + '"'
 
@@ -407,26 +447,39 @@ def json_string(name):
 def printed_groups(rows, options):
     """The answer of `count` on groups, each a name in bytes and a report."""
     if options["form"]:
-        return printed([(name.decode(errors="replace"), row) for name, row in rows], options, "show").encode()
+        return printed(rows, options, "show").encode()
     return b"".join(name + b"\t" + printed([(None, row)], options, "count").encode() for name, row in rows)
+
+
+def for_people(row):
+    """A count as people read it: in groups of digits, and an estimate with its bounds, to a power of ten that is at most a
+    hundredth of their distance, which are rounded outwards."""
+    if row["exact"]:
+        return f"{row['estimate']:,}"
+    unit = max(10**power for power in range(36) if power == 0 or 100 * 10**power <= row["upper"] - row["lower"])
+    lower, upper = row["lower"] // unit * unit, -(-row["upper"] // unit) * unit
+    estimate = (2 * row["estimate"] + unit) // (2 * unit) * unit
+    return f"about {estimate:,} ({lower:,} to {upper:,})"
 
 
 def printed(rows, options, command):
     """The answer of `count` or `show` on reports, each with its name or None."""
     if options["form"] == "--tsv":
         names = ["name"] * (command != "count") + list(report_of(None, 2))
-        table = [[escaped(name or "")] * (name is not None) + [json.dumps(it) for it in row.values()] for name, row in rows]
+        table = [[shown_name(name or "")] * (name is not None) + [json.dumps(it) for it in row.values()] for name, row in rows]
         return "".join("\t".join(it) + "\n" for it in [names, *table])
     if options["form"] == "--json":
         named = [[f'"name":{json_string(name or "")}'] * (name is not None) for name, _ in rows]
         pairs = [[f'"{key}":{json.dumps(it)}' for key, it in row.items()] for _, row in rows]
         return "".join("{" + ",".join(name + pair) + "}\n" for name, pair in zip(named, pairs))
+    if command == "count" and options.get("--human"):
+        return "".join(for_people(row) + "\n" for _, row in rows)
     if command == "count":
         shown = ["estimate", "lower", "upper"] if options["--bounds"] else ["estimate"]
         return "".join(" ".join(str(row[it]) for it in shown) + "\n" for _, row in rows)
     line = "{}: {estimate} {kind}, retained {retained}, theta {theta}\n"
     kinds = ["exact" if row["exact"] else "estimated, from {lower} to {upper}".format(**row) for _, row in rows]
-    return "".join(line.format(escaped(name), kind=kind, **row) for (name, row), kind in zip(rows, kinds))
+    return "".join(line.format(shown_name(name), kind=kind, **row) for (name, row), kind in zip(rows, kinds))
 
 
 # Arguments.
@@ -443,7 +496,9 @@ def number_of(option, value):
 
 def set_option(command, options, words):
     """Sets the option that the words begin with; takes its words off."""
-    option, has_value, value = words.pop(0).partition("=")
+    word = words.pop(0)
+    option, has_value, value = (word[:2], True, word[2:]) if word[:2] in SHORT and word[2:] else word.partition("=")
+    option = (SHORT | {"-q": "--quiet"}).get(option, option)
     if option not in OPTIONS[command].split():
         raise Fault(f"no option {option}")
     if option in FLAGS or option in ("--tsv", "--json", "--bounds"):
@@ -459,6 +514,11 @@ def set_option(command, options, words):
     value = value if has_value else words.pop(0)
     if option == "--separator" and len(value.encode()) != 1:
         raise Fault("a separator of another length than 1")
+    if option == "--part":
+        found = re.fullmatch(r"([0-9]+)/([0-9]+)", value)
+        value = tuple(map(int, found.groups())) if found else (0, 0)
+        if not 1 <= value[0] <= value[1] < 2**32:
+            raise Fault("no part")
     if option == "--sort" and value not in ("name", "estimate"):
         raise Fault("another order than name and estimate")
     if option in ("--seed", "--seed-file"):
@@ -556,16 +616,16 @@ def read_arguments(words):
     if not words or words[0] not in OPTIONS:
         raise Fault("no command")
     command = words.pop(0)
-    options = {"--lg-k": 12, "seed": ("--seed", DEFAULT_SEED), "form": None}
-    ended = False
-    while words and words[0].startswith("-") and words[0] != "-" and not ended:
+    options = {"--lg-k": 16 if command in ("count", "visits") else 12, "seed": ("--seed", DEFAULT_SEED), "form": None}
+    files = []
+    while words and words[0] != "--":
         if words[0] in ("--help", "-h"):
             raise Uncomputed(f"{command} --help")
-        ended = words[0] == "--" and bool(words.pop(0))
-        if not ended:
+        if words[0].startswith("-") and words[0] != "-":
             set_option(command, options, words)
-    if not ended and any(it.startswith("-") and it != "-" for it in words):
-        raise Fault("an option behind a file")
+        else:
+            files.append(words.pop(0))
+    words = files + words[1:]
     if command == "eval" and len(words) != 1:
         raise Fault("not one expression")
     if command == "eval" and "--field" in options and "--keys" not in options:
@@ -586,8 +646,12 @@ def read_arguments(words):
         raise Fault("--sums with --groups, --field or eval --bounds")
     if command == "sketch" and "--by" in options and "--hex" not in options and "--output-dir" not in options:
         raise Fault("--by without --hex and without --output-dir")
+    if options.get("--human") and options["form"]:
+        raise Fault("--human with --tsv or --json")
     if "--sort" in options and "--by" not in options:
         raise Fault("--sort without --by")
+    if {"--part", "--sums"} <= options.keys():
+        raise Fault("--part and --sums")
     if "--groups" in options and ("--hex" not in options or "--expect" in options):
         raise Fault("--groups without --hex or with --expect")
     if "--output-dir" in options and ("--by" not in options or "--output" in options):
@@ -599,7 +663,7 @@ def read_arguments(words):
     read = set(names_of(steps_of(words[0]))) if command == "eval" else words
     if [options["seed"][1], options.get("--files0-from"), *read].count("-") > 1:
         raise Fault("standard input twice")
-    for option in ("--field", "--by", "--sort", "--bounds", "--hex", "--groups", "--sums", "--keys", "--output", "--output-dir", "--expect"):
+    for option in ("--field", "--by", "--sort", "--bounds", "--hex", "--groups", "--sums", "--keys", "--output", "--output-dir", "--expect", "--part"):
         options.setdefault(option)
     options["--separator"] = options.get("--separator", "\t").encode()
     options["dirs"] = dirs + ([options["-C"]] if "-C" in options else [])
@@ -613,6 +677,45 @@ def text_of(files, name):
     if name not in files:
         raise Uncomputed(f"the file {name}")
     return files[name]
+
+
+def range_of(size, index, parts):
+    """Where the range of a part of a file of so many bytes begins and ends."""
+    return size * (index - 1) // parts, size * index // parts
+
+
+def shows_start(size, index, parts):
+    """Whether a part is read from the first byte of its file on: one before its range is read too."""
+    begin, end = range_of(size, index, parts)
+    return begin <= 1 and begin < end
+
+
+def part_of(text, index, parts):
+    """The lines of a text whose first byte is in the range of a part."""
+    begin, end = range_of(len(text), index, parts)
+    lines, place = [], 0
+    for line in io.BytesIO(text):
+        lines += [line] * (begin <= place < end)
+        place += len(line)
+    return b"".join(lines)
+
+
+class InPart:
+    """Files of which only one part is read."""
+
+    def __init__(self, files, part):
+        self.files, self.part = files, part
+
+    def __contains__(self, name):
+        return name in self.files
+
+    def __getitem__(self, name):
+        if name == "-":
+            raise Failure("standard input: is not a regular file, as --part needs: copy it to one, or read it whole")
+        return part_of(self.files[name], *self.part)
+
+    def __setitem__(self, name, text):
+        self.files[name] = text
 
 
 def called(name):
@@ -672,6 +775,32 @@ def seed_of(files, options):
         raise Failure(f"{escaped(called(value))}: {flaw}") from None
 
 
+MAGIC = {b"\x1f\x8b": ("gzip", "zcat"), b"\x28\xb5\x2f\xfd": ("zstd", "zstdcat"), b"\xfd7zXZ\0": ("xz", "xzcat"), b"BZh": ("bzip2", "bzcat")}
+
+
+def look_at(command, names, files, options, messages):
+    """Warns of each file that is to be read as lines and has none."""
+    for name in names:
+        text = text_of(files, name)
+        start = f"warning: {escaped(called(name))} is"
+        read = "and its bytes are read as lines:"
+        for magic, (kind, tool) in MAGIC.items():
+            if text.startswith(magic):
+                call = tool if name == "-" else f"{tool} {escaped(name)}"
+                messages.append(f"{start} compressed by {kind}, {read} {call} | distinct {command}")
+        if len(text) > 2 and 1 <= text[0] <= 4 and 1 <= text[1] <= 3 and text[2] in (3, 9):
+            call = f"distinct show {escaped(name)}" if text[2] == 3 else f"distinct eval --sums '{escaped(name)}'"
+            messages.append(f"{start} {'the image of a sketch' if text[2] == 3 else 'an image of sums'}, {read} {call}")
+
+
+def coarser(named, lg_k):
+    """The warning that an image retains more hashes than a union keeps, if one does: of names and sketches."""
+    most, name = max((len(part[0]) if part else 0, -place, name) for place, (name, part) in enumerate(named))[::2]
+    less = "the union is less exact than its images; pass a greater --lg-k"
+    warning = f"warning: {name} retains {most} hashes, and --lg-k {lg_k} keeps {2**lg_k}: {less}"
+    return [warning] * (most > 2**lg_k)
+
+
 def combined(command, sketches, options, messages):
     """What `union`, `meet` or `minus` makes of images."""
     if command == "minus" and len(sketches) != 2:
@@ -681,10 +810,7 @@ def combined(command, sketches, options, messages):
     parts = [part for _, part in sketches]
     if command == "union":
         lg_k = options["--lg-k"]
-        most, name = max((len(part[0]) if part else 0, -place, name) for place, (name, part) in enumerate(sketches))[::2]
-        if most > 2**lg_k:
-            less = "the union is less exact than its images; pass a greater --lg-k"
-            messages.append(f"warning: {name} retains {most} hashes, and --lg-k {lg_k} keeps {2**lg_k}: {less}")
+        messages += coarser(sketches, lg_k)
         if not options["--sums"]:
             return unite(2**lg_k, parts)
         return unite_sums(2**lg_k, parts)[0]
@@ -707,7 +833,7 @@ def file_of(folder, name):
 
 def united_groups(files, names, options, own_hash, messages):
     """The name and the union of the images of each group, in ascending order."""
-    groups, most, lg_k = {}, 0, options["--lg-k"]
+    groups, read, lg_k = {}, [], options["--lg-k"]
     for name in names:
         for number, line in enumerate(lines_of(text_of(files, name)), 1):
             place = f"{escaped(called(name))}: line {number}"
@@ -721,10 +847,8 @@ def united_groups(files, names, options, own_hash, messages):
             except Failure as flaw:
                 raise Failure(f"{place} {flaw}") from None
             groups.setdefault(group, []).append(sketch)
-            most = max(most, len(sketch[0]) if sketch else 0)
-    if most > 2**lg_k:
-        less = "the union is less exact than its images; pass a greater --lg-k"
-        messages.append(f"warning: an image retains {most} hashes, and --lg-k {lg_k} keeps {2**lg_k}: {less}")
+            read.append((called(name), sketch))
+    messages += coarser(read, lg_k) if read else []
     return [(name, unite(2**lg_k, groups[name])) for name in sorted(groups)]
 
 
@@ -757,11 +881,23 @@ def run(words, files, messages):
             if not name or name.decode(errors="ignore").encode() != name:
                 raise Failure(f"{escaped(called(options['--files0-from']))}: name {number} is empty or not UTF-8 text")
         names = [name.decode() for name in listed]
+    read = names_of(steps_of(names[0])) if command == "eval" else names
+    has_lines = options["--keys"] or command in ("count", "sketch", "visits", "sum") and not options["--sums"]
+    if has_lines and options["--output"] not in (None, "-") and options["--output"] in read and "--force" not in options:
+        raise Fault("the output is an input")
+    part = options["--part"]
+    if has_lines:
+        look_at(command, [it for it in read if not part or it != "-" and shows_start(len(text_of(files, it)), *part)], files, options, messages)
+    if part:
+        files = InPart(files, part)
     if command == "visits" and not options["--sums"]:
         sketch, counts = visits_of([text_of(files, name) for name in names], options, seed)
         return printed_ranges(ranges_of(sketch, counts, options["--bounds"] or 2), options).encode()
     if command == "sum":
-        return printed_total(sums_of([(name, text_of(files, name)) for name in names], options, seed), options).encode()
+        texts = [(name, text_of(files, name)) for name in names]
+        sketch = sums_of(texts, options, seed)
+        values = (key_of(line, options["--value"], options["--separator"]) for _, text in texts for line in lines_of(text))
+        return printed_total(sketch, options, sum(int(it) for it in values)).encode()
     if command == "sketch" and (options.get("--value") or options.get("--visits")):
         image = image_of(sums_of([(name, text_of(files, name)) for name in names], options, seed), seed_hash(seed), True)
         return written(image.hex().encode() + b"\n" if hex_lines else image, files, options)
@@ -779,6 +915,13 @@ def run(words, files, messages):
             return printed_groups(reports, options)
         images = [(name, image_of(it, seed_hash(seed))) for name, it in rows]
         if options["--output-dir"]:
+            for name, _ in images:
+                path = file_of(options["--output-dir"], name)
+                size = len(path.rpartition("/")[2])
+                if size > 246:
+                    shown = path[:200] + ".." * (len(path) > 200)
+                    remedy = "write lines by --hex, without --output-dir"
+                    raise Failure(f"{shown}: the file's name has {size} bytes, and at most 246 are allowed: {remedy}")
             for name, image in images:
                 files[file_of(options["--output-dir"], name)] = image.hex().encode() + b"\n" if hex_lines else image
             return b""
@@ -800,6 +943,9 @@ def run(words, files, messages):
             sketch = evaluated(steps, sketches, 2 ** options["--lg-k"], of_sums)
         except Failure:
             raise Failure(f"eval: '{escaped(names[0])}': the sum of a key is above {M64}") from None
+        lowest = min(part[1] if part else MAX_THETA for part in sketches.values())
+        if not options["--keys"] and (sketch[1] if sketch else MAX_THETA) < lowest:
+            messages += coarser([(called(name), part) for name, part in sketches.items()], options["--lg-k"])
         if of_sums and options["--output"] is None:
             return printed_total(sketch, options).encode()
         rows = [(names[0], sketch)]
@@ -839,26 +985,31 @@ def case_files(files):
     return {"@" + name: text for name, text in (files or {}).items()}
 
 
+# What messages of the system have.
+SYSTEM = b": No such file or directory", b": Not a directory", b": is a directory"
+
+
 def wrong_in(case, data):
     """What differs in a case, if anything. These are the files of the folder in which it runs."""
     files = data | case_files(case.before) | {"-": case.input}
     files |= {it.decode(): files["keys.theta"] for it in files["odd.list"].split(b"\0") if it}
     status, answer, messages = 0, b"", []
-    if any(text in (case.messages or b"") for text in (b"(os error ", b": is a directory")):
+    if any(text in (case.messages or b"") for text in SYSTEM):
         raise Uncomputed("an error of the system")
     try:
         answer = run(case.arguments, files, messages)
     except Fault:
         status, messages = 2, None
     except Failure as failure:
-        status, messages = 1, [str(failure)]
+        status, messages = 1, [*messages, str(failure)]
     if any("/" in it for it in files if not it.startswith("@")):
         raise Uncomputed("a file in another folder")
     if status != case.status:
         return "status"
     if answer != case.output:
         return "answer"
-    said = "".join(f"distinct: {it}\n" for it in messages or [])
+    quiet = status == 0 and {"-q", "--quiet"} & set(case.arguments)
+    said = "".join(f"distinct: {it}\n" for it in messages or [] if not quiet)
     if messages is not None and case.messages is not None and said.encode() != case.messages:
         return "message"
     after = {name: text for name, text in files.items() if name.startswith("@")}
@@ -919,13 +1070,17 @@ class InFolder:
 
 
 class OpenFiles(dict):
-    """The files of this folder, by their names."""
+    """The files of this folder, by their names, and standard input, which is read once."""
+
+    @functools.cached_property
+    def standard(self):
+        return sys.stdin.buffer.read()
 
     def __contains__(self, name):
         return name == "-" or os.path.isfile(name)
 
     def __getitem__(self, name):
-        return sys.stdin.buffer.read() if name == "-" else bytes_of(name)
+        return self.standard if name == "-" else bytes_of(name)
 
     def __setitem__(self, name, text):
         with open(name, "wb") as file:

@@ -31,8 +31,8 @@ def table():
         return cases[name].output.decode()
 
     commands = helps.read(said("version"), said("help"), lambda name: said(f"help_on_{name}")).commands
-    options = [(command.name, FORMS[it.form].format(it.flag, it.value), it.flag, it.meaning.partition(". ")[0].replace("|", "\\|"))
-               for command in commands for it in command.options]
+    options = [(command.name, ", ".join(filter(None, [it.short, FORMS[it.form].format(it.flag, it.value)])), it.flag,
+                it.meaning.partition(". ")[0].replace("|", "\\|")) for command in commands for it in command.options]
     found = {}
     for command, call, flag, meaning in options:
         # The shortest sentence of this call with which its own begins.

@@ -278,7 +278,7 @@ def check_failed_output(place):
             file.write(b"kept\n")
         command = [PROGRAMS["distinct"], "sketch", "--field", "1", *words]
         done = subprocess.run(command, input=data, capture_output=True, cwd=folder, preexec_fn=refuse_long_files)
-        said = f"distinct: {target}: File too large (os error 27)\n".encode()
+        said = f"distinct: {target}: File too large\n".encode()
         check(f"distinct {words[0]} {target}, of which 100 bytes can be written", (done.returncode, done.stdout, done.stderr), (1, b"", said))
         check(f"distinct {words[0]} {target}, what is left", {it: open(os.path.join(folder, it), "rb").read() for it in os.listdir(folder)}, {"old": b"kept\n"})
 

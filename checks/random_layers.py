@@ -110,13 +110,12 @@ def state_line(chance, is_tuple):
 
 
 def image_line(chance, _):
-    """Images whose preamble is read apart."""
+    """Images that are read by their heads."""
     calls = []
     for _ in range(chance.randrange(1, 4)):
         kind = chance.choice(("theta", "u64"))
-        told = image(chance, kind, span_of(chance))
-        longs = int(told[:2] or "1", 16) if chance.random() < 0.9 else chance.randrange(5)
-        calls.append(f"{'read' if kind == 'theta' else 'read_u64'} {told} {longs} {chance.choice((37836, 37836, 37836, 0x1234))}")
+        told = image(chance, kind, span_of(chance)) or "-"
+        calls.append(f"{'read' if kind == 'theta' else 'read_u64'} {told} {chance.choice((9001, 9001, 9001, 77))}")
     return "images", calls
 
 
@@ -211,14 +210,14 @@ def base_line(chance, _):
     """Small calls of the layer below."""
     a, b = chance.randrange(2**64), chance.choice((1, 33, 1000, chance.randrange(2**63), 0, 2**63))
     kind = chance.choice(("argument", "data", "memory", "policy", "failed"))
-    told = image(chance, "theta", span_of(chance)) or "-"
+    told, tuples = (image(chance, kind, span_of(chance)) or "-" for kind in ("theta", "u64"))
     calls = (
         f"seed_hash {chance.choice((9001, a, SEED_OF_ZERO))} {kind}", f"check_seed_hash {a % 3} {b % 3} {kind}", f"error {kind}",
         f"validate theta {a % 5}", f"validate tuple {a % 12}", f"factor {2 ** (a % 4)}", "settings " + " ".join(settings(chance)),
         f"starting_sub_multiple {a % 256} {b % 9} {a % 5}", f"starting_sub_multiple {a % 30} {b % 6} {a % 4}",
         f"rebuild_size {a % chance.choice((50, 10**6, 2**64))}", f"entry {b}", f"of_hash {a}", f"tuple_entry {b} {a} 7",
         f"tuple_of_hash {a} {b}", f"decimal {a} {b} {a % 21}", f"announced {a % 256} {a % 2**32} {b} {flag(chance)}",
-        f"admitted {a % 256} {a % 2**32} {b} {flag(chance)}", f"layout {told} {a % 5} {chance.choice((37836, 37836, 7))}",
+        f"theta_image {told} {chance.choice((9001, 9001, 77, SEED_OF_ZERO))}", f"tuple_image {tuples} {chance.choice((9001, 9001, 77))}",
         f"theta_at {told}", f"count_at {told}", f"seed_hash_at {told}",
     )  # fmt: skip
     return "base", chance.sample(calls, 5)

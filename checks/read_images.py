@@ -120,9 +120,77 @@ def unflagged(image, version, longs, seed_hash):
     return sketch("theta", image, 8 * longs, count, theta, True)
 
 
+class Told(typing.NamedTuple):
+    """What a whole preamble says: where the entries begin, their number, theta, and whether they ascend; the length of the image;
+    and the seed hash that is asked for, if one is. An empty sketch has no entries."""
+
+    start: int
+    count: int
+    theta: int
+    ordered: bool
+    length: int
+    asked: int | None
+    is_empty: bool
+
+
+def begin_flaw(kind, image):
+    """The flaw of the first eight bytes, if they have one."""
+    family, versions = (3, (1, 2, 3)) if kind == "theta" else (9, (1, 3))
+    if len(image) < 8:
+        return "Short"
+    if image[2] != family:
+        return f"Family({image[2]})"
+    if image[1] not in versions:
+        return f"Version({image[1]})"
+    if not 1 <= image[0] <= 3 or kind != "theta" and image[3] not in (1, 5):
+        return "Damaged"
+    return None
+
+
+def told(kind, image):
+    """What the preamble of an image says, or None if the bytes don't begin with a whole one: theta, or a tuple sketch of u64."""
+    if begin_flaw(kind, image):
+        return None
+    has_flags, size = (image[1] == 3, 8) if kind == "theta" else (True, 16)
+    vacant = Told(8, 0, MAX_THETA, True, 8, None, True)
+    if has_flags and image[5] & EMPTY or not has_flags and image[1] == 2 and image[0] == 1:
+        return vacant
+    longs = image[0] if has_flags or image[1] == 2 else 3
+    if len(image) < 8 * longs:
+        return None
+    count = 1 if longs == 1 else number(image, 8, 4)
+    theta = number(image, 16, 8) if longs == 3 else MAX_THETA
+    if not has_flags and count == 0 and theta == MAX_THETA:
+        return vacant._replace(length=8 * longs)
+    ordered = not has_flags or image[5] & ORDERED != 0
+    asked = number(image, 6, 2) if has_flags or image[1] == 2 else None
+    return Told(8 * longs, count, theta, ordered, 8 * longs + size * count, asked, False)
+
+
+def preamble_flaw(kind, image, seed_hash):
+    """The flaw that the preamble shows, if it shows one."""
+    flaw, it = begin_flaw(kind, image), told(kind, image)
+    if flaw:
+        return flaw
+    if it is None or len(image) < it.length:
+        return "Cut"
+    if seed_hash == 0 or it.asked not in (None, seed_hash):
+        return "Seed"
+    return None if 1 <= it.theta <= MAX_THETA else "Damaged"
+
+
+def flaw_of(kind, image, seed_hash, alone=True):
+    """The flaw of bytes that aren't read; if they are to be an image alone, also of those that others follow."""
+    flaw = preamble_flaw(kind, image, seed_hash)
+    if flaw is None:
+        flaw = "Longer" if alone and told(kind, image).length < len(image) else "Damaged"
+    has_flags = len(image) >= 8 and (kind != "theta" or image[1] == 3)
+    return "BigEndian" if has_flags and image[5] & 1 and flaw in ("Cut", "Seed", "Damaged", "Longer") else flaw
+
+
 def held_by(kind, image, seed_hash=SEED_HASH):
     """The sketch that an image is read as: None if it is empty."""
-    if len(image) < 8:
+    if len(image) < 8 or seed_hash == 0:
         raise Refused
     longs, version, family, sketch_type = image[:4]
     if not 1 <= longs <= 3:
@@ -152,6 +220,17 @@ def answer(kind, image):
         return shown(kind, held_by(kind, image))
     except Refused:
         return REFUSED
+
+
+def length_of(kind, image):
+    """The length of the image that bytes begin, if they are read at all. The kind is theta, or u64, a tuple sketch of sums."""
+    entry, has_flags = (8, image[1] == 3) if kind == "theta" else (16, True)
+    longs, count = image[0], int.from_bytes(image[8:12], "little")
+    if has_flags and image[5] & EMPTY:
+        return 8
+    if longs == 1 and (has_flags or image[1] == 2):
+        return 8 + entry if has_flags else 8
+    return (8 * longs if has_flags or image[1] == 2 else 24) + entry * count
 
 
 def sketch_line(kind, image):

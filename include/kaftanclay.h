@@ -52,6 +52,21 @@ enum {
     KC_TOO_SMALL = 6         /* the buffer is too small; *length is the room that is needed */
 };
 
+/* Why bytes are not one image. */
+enum {
+    KC_FLAW_HEXADECIMAL = 1, /* they begin with 16 hexadecimal digits: turn the digits into bytes */
+    KC_FLAW_SHORT = 2,       /* there are fewer than eight bytes */
+    KC_FLAW_FAMILY = 3,      /* the image is of another family of sketches, which is `found`: 3 is that of theta
+                              * sketches, 9 of tuple sketches */
+    KC_FLAW_VERSION = 4,     /* the image is of a version that is not read, which is `found`; version 4 is compressed */
+    KC_FLAW_BIG_ENDIAN = 5,  /* the image is flagged as one of numbers with the highest byte first */
+    KC_FLAW_SEED = 6,        /* the image has another seed hash, and is not that of an empty sketch */
+    KC_FLAW_CUT = 7,         /* the image is longer than the bytes, or they end within its preamble */
+    KC_FLAW_LONGER = 8,      /* bytes follow the image */
+    KC_FLAW_DAMAGED = 9      /* the preamble, the sketch type, theta or the hashes are not valid; it is also written for
+                              * bytes without a flaw */
+};
+
 typedef struct { void *object; } kc_theta;             /* a theta sketch that takes updates */
 typedef struct { void *object; } kc_compact;           /* a compact theta sketch, which never changes */
 typedef struct { void *object; } kc_text;              /* a text whose lines update a sketch */
@@ -76,6 +91,13 @@ typedef struct {
     uint64_t high; /* the number divided by 2^64, rounded down */
 } kc_wide;
 
+/* What the preamble of bytes says of the image that they begin. */
+typedef struct {
+    uint32_t flaw;   /* why they are not one image, from 1 to 9: the first of the flaws that applies */
+    uint32_t found;  /* the byte of the family or of the version that is at fault; else 0 */
+    uint64_t length; /* how many bytes the image has by its preamble, at least 8; 0 if that isn't known */
+} kc_finding;
+
 /* ---- Theta sketches that take updates ---- */
 
 /* Makes an empty sketch of 2^lg_k nominal entries. Refused with KC_INVALID_ARGUMENT if lg_k isn't from 4 to 26 or the
@@ -94,6 +116,9 @@ kc_status kc_theta_free(kc_theta *sketch);
 /* Updates a sketch with a hash of 63 bits. A hash that is 0 or at least theta is not retained, but the sketch is
  * nonempty afterwards. Refused with KC_OUT_OF_MEMORY, only for a new hash below theta. */
 kc_status kc_theta_update_hash(kc_theta *sketch, uint64_t hash);
+/* Updates a sketch with a hash, as kc_theta_update_hash does, and writes the state after it, as kc_theta_state does. If
+ * theta is as before the call, the hash was new exactly if one more is retained. Refused as kc_theta_update_hash is. */
+kc_status kc_theta_insert_hash(kc_theta *sketch, uint64_t hash, kc_state *out);
 /* Updates a sketch with a number, by the hash of its eight bytes, the lowest first: the hash of the other
  * implementations. Refused as kc_theta_update_hash is. */
 kc_status kc_theta_update_u64(kc_theta *sketch, uint64_t number);
@@ -119,6 +144,14 @@ kc_status kc_theta_compact(const kc_theta *sketch, kc_compact *out);
  * *count. If room is less, the status is KC_TOO_SMALL, the array is as before, and *count is the room that is
  * needed. */
 kc_status kc_theta_hashes(const kc_theta *sketch, uint64_t *hashes, size_t room, uint64_t *count);
+/* Makes the sketch's compact form, as kc_theta_compact does. If `ordered` is 1, its hashes ascend; if it is 0, they are
+ * in any order, which is faster, and it is ordered only if it is empty or has one hash at the greatest theta. Refused
+ * with KC_INVALID_ARGUMENT if `ordered` is neither 0 nor 1, and with KC_OUT_OF_MEMORY. */
+kc_status kc_theta_compact_with(const kc_theta *sketch, uint32_t ordered, kc_compact *out);
+/* Makes the difference of two sketches, as kc_difference does of compact ones. */
+kc_status kc_theta_difference(const kc_theta *first, const kc_theta *second, uint64_t seed, kc_compact *out);
+/* Writes how many bytes the slots of the sketch take, 8 for each of 32 to 2^(lg_k + 1) slots, free ones included. */
+kc_status kc_theta_estimated_size(const kc_theta *sketch, uint64_t *bytes);
 /* Updates a sketch with byte strings in their order, each by its hash. They lie one after another in `bytes`, the first
  * from offset 0, and ends[i] is the offset of the end of string i. The call allocates eight bytes per string. Refused
  * with KC_INVALID_ARGUMENT if an end is below the one before it or past the bytes. Refused with KC_OUT_OF_MEMORY; then
@@ -161,12 +194,20 @@ kc_status kc_compact_state(const kc_compact *sketch, kc_state *out);
 kc_status kc_compact_image(const kc_compact *sketch, void *out, size_t room, uint64_t *length);
 /* Writes the sketch's hashes, in the order of its image, as kc_theta_hashes does. */
 kc_status kc_compact_hashes(const kc_compact *sketch, uint64_t *hashes, size_t room, uint64_t *count);
+/* Writes the hash of the sketch's seed, of 16 bits, as kc_seed_hash does. */
+kc_status kc_compact_seed_hash(const kc_compact *sketch, uint32_t *out);
+/* Writes 1 if the sketch is ordered: its hashes ascend; otherwise 0, and they are in any order. */
+kc_status kc_compact_is_ordered(const kc_compact *sketch, uint32_t *out);
+/* Writes how many bytes the sketch's hashes take, 8 for each. */
+kc_status kc_compact_estimated_size(const kc_compact *sketch, uint64_t *bytes);
 
 /* ---- Unions ---- */
 
 /* Makes a union of 2^lg_k nominal entries. Its value has the hashes of all its sketches below their least theta; if
  * these are more than k = 2^lg_k, the k least, and its theta is the (k+1)th. Refused as kc_theta_new is. */
 kc_status kc_union_new(kc_union *u, uint32_t lg_k, uint64_t seed);
+/* Makes a union with a resize factor and a starting theta, as kc_theta_new_with makes a sketch. */
+kc_status kc_union_new_with(kc_union *u, uint32_t lg_k, uint64_t seed, uint32_t resize_factor, uint64_t starting_theta);
 /* Frees the union of a handle, if it has one. */
 kc_status kc_union_free(kc_union *u);
 /* Merges a sketch that takes updates into the union. An empty sketch changes nothing. Refused with KC_INVALID_ARGUMENT
@@ -190,6 +231,11 @@ kc_status kc_union_reset(kc_union *u);
  * no more, also after a reset. With its own lg_k nothing changes. Refused with KC_FAILED if the union has failed, else
  * with KC_INVALID_ARGUMENT if lg_k is out of range, and with KC_OUT_OF_MEMORY. */
 kc_status kc_union_lower_lg_k(kc_union *u, uint32_t lg_k);
+/* Makes the union's value as a compact sketch, as kc_union_result does, ordered or not, as in kc_theta_compact_with.
+ * Refused as kc_union_result is, and with KC_INVALID_ARGUMENT if `ordered` is neither 0 nor 1. */
+kc_status kc_union_result_with(const kc_union *u, uint32_t ordered, kc_compact *out);
+/* Writes how many bytes the slots of the union take, as kc_theta_estimated_size does. */
+kc_status kc_union_estimated_size(const kc_union *u, uint64_t *bytes);
 
 /* ---- Many sketches at once ---- */
 
@@ -238,11 +284,21 @@ kc_status kc_intersection_add_image(kc_intersection *intersection, const void *i
 /* Makes the intersection's value as an ordered compact sketch. Refused with KC_INVALID_ARGUMENT before the first
  * sketch, and with KC_OUT_OF_MEMORY. */
 kc_status kc_intersection_result(const kc_intersection *intersection, kc_compact *out);
+/* Makes the intersection's value as a compact sketch, as kc_intersection_result does, ordered or not, as in
+ * kc_theta_compact_with. Refused as kc_intersection_result is, and with KC_INVALID_ARGUMENT if `ordered` is neither 0
+ * nor 1. */
+kc_status kc_intersection_result_with(const kc_intersection *intersection, uint32_t ordered, kc_compact *out);
+/* Writes how many bytes the hashes of the intersection's value take, 8 for each; 0 before the first sketch. */
+kc_status kc_intersection_estimated_size(const kc_intersection *intersection, uint64_t *bytes);
 /* Makes the difference of two sketches, as an ordered compact sketch: the hashes of the first that the second lacks,
  * below the lesser theta. Pass three different handles. Refused with KC_INVALID_ARGUMENT if the hash of the seed is 0,
  * and, unless the first sketch is empty, if one that isn't empty is of another seed; and with KC_OUT_OF_MEMORY. With an
  * empty first sketch the difference is empty, and the second sketch may be of any seed. */
 kc_status kc_difference(const kc_compact *first, const kc_compact *second, uint64_t seed, kc_compact *out);
+/* Makes the difference of two sketches, as kc_difference does; it is ordered if `ordered` is 1, or if the first sketch
+ * is. Refused as kc_difference is, and with KC_INVALID_ARGUMENT if `ordered` is neither 0 nor 1. */
+kc_status kc_difference_with(const kc_compact *first, const kc_compact *second, uint64_t seed, uint32_t ordered,
+                             kc_compact *out);
 
 /* ---- Images alone ---- */
 
@@ -257,6 +313,13 @@ kc_status kc_images_intersect(const void *first, size_t first_count, const void 
  * kc_image_state is. */
 kc_status kc_images_difference(const void *first, size_t first_count, const void *second, size_t second_count,
                                uint64_t seed, void *out, size_t room, uint64_t *length);
+/* Writes why the bytes are not one image of a theta sketch of this seed, and how long the image is that they begin.
+ * Call it for bytes that a call refused with KC_INVALID_DATA, or to learn whether bytes follow an image that was read:
+ * it reads the preamble alone, and so finds no flaw in the hashes. Refused with KC_INVALID_ARGUMENT if the hash of the
+ * seed is 0. */
+kc_status kc_image_flaw(const void *image, size_t count, uint64_t seed, kc_finding *out);
+/* Writes the same of bytes that are not one image of a tuple sketch of sums. */
+kc_status kc_sums_image_flaw(const void *image, size_t count, uint64_t seed, kc_finding *out);
 
 /* ---- Tuple sketches of sums ---- */
 
@@ -294,6 +357,13 @@ kc_status kc_sums_total(const kc_sums *sums, kc_wide *out);
 /* Writes the hashes of the sketch and their sums, each hash once in no particular order, as kc_compact_sums_entries
  * does. */
 kc_status kc_sums_entries(const kc_sums *sums, uint64_t *hashes, uint64_t *values, size_t room, uint64_t *count);
+/* Makes the sketch's compact form, ordered or not, as kc_theta_compact_with does. */
+kc_status kc_sums_compact_with(const kc_sums *sums, uint32_t ordered, kc_compact_sums *out);
+/* Makes the difference of two sketches, as kc_sums_difference does of compact ones. */
+kc_status kc_sums_updatable_difference(const kc_sums *first, const kc_sums *second, uint64_t seed,
+                                       kc_compact_sums *out);
+/* Writes how many bytes the slots of the sketch take, as kc_theta_estimated_size does; a slot takes 24. */
+kc_status kc_sums_estimated_size(const kc_sums *sums, uint64_t *bytes);
 /* Adds many values to the sums of as many hashes in their order, each as kc_sums_add_hash does, and writes how many
  * were added. Refused as kc_sums_add_hash is, at the first value that call would refuse; then exactly the *added values
  * before it were added. Refused with KC_INVALID_ARGUMENT if there are more hashes than values, or fewer; then none was
@@ -326,6 +396,12 @@ kc_status kc_compact_sums_entries(const kc_compact_sums *sums, uint64_t *hashes,
                                   uint64_t *count);
 /* Writes the total of a sketch, as kc_sums_total does. */
 kc_status kc_compact_sums_total(const kc_compact_sums *sums, kc_wide *out);
+/* Writes the hash of the sketch's seed, of 16 bits, as kc_compact_seed_hash does. */
+kc_status kc_compact_sums_seed_hash(const kc_compact_sums *sums, uint32_t *out);
+/* Writes 1 if the sketch is ordered, and otherwise 0, as kc_compact_is_ordered does. */
+kc_status kc_compact_sums_is_ordered(const kc_compact_sums *sums, uint32_t *out);
+/* Writes how many bytes the sketch's hashes and sums take, 16 for each pair. */
+kc_status kc_compact_sums_estimated_size(const kc_compact_sums *sums, uint64_t *bytes);
 
 /* ---- Unions of tuple sketches of sums ---- */
 
@@ -354,6 +430,10 @@ kc_status kc_sums_union_image(const kc_sums_union *u, void *out, size_t room, ui
 kc_status kc_sums_union_reset(kc_sums_union *u);
 /* Lowers the union to 2^lg_k nominal entries, as kc_union_lower_lg_k does. */
 kc_status kc_sums_union_lower_lg_k(kc_sums_union *u, uint32_t lg_k);
+/* Makes the union's value as a compact sketch, ordered or not, as kc_union_result_with does. */
+kc_status kc_sums_union_result_with(const kc_sums_union *u, uint32_t ordered, kc_compact_sums *out);
+/* Writes how many bytes the slots of the union take, as kc_sums_estimated_size does. */
+kc_status kc_sums_union_estimated_size(const kc_sums_union *u, uint64_t *bytes);
 
 /* ---- Intersections and differences of tuple sketches of sums ---- */
 
@@ -373,9 +453,19 @@ kc_status kc_sums_intersection_add_image(kc_sums_intersection *intersection, con
 /* Makes the intersection's value as an ordered compact sketch. Refused with KC_INVALID_ARGUMENT before the first
  * sketch, and with KC_OUT_OF_MEMORY. */
 kc_status kc_sums_intersection_result(const kc_sums_intersection *intersection, kc_compact_sums *out);
+/* Makes the intersection's value as a compact sketch, ordered or not, as kc_intersection_result_with does. */
+kc_status kc_sums_intersection_result_with(const kc_sums_intersection *intersection, uint32_t ordered,
+                                           kc_compact_sums *out);
+/* Writes how many bytes the hashes and sums of the intersection's value take, 16 for each pair; 0 before the first
+ * sketch. */
+kc_status kc_sums_intersection_estimated_size(const kc_sums_intersection *intersection, uint64_t *bytes);
 /* Makes the difference of two sketches, as kc_difference does; each hash keeps the sum that it has in the first. */
 kc_status kc_sums_difference(const kc_compact_sums *first, const kc_compact_sums *second, uint64_t seed,
                              kc_compact_sums *out);
+/* Makes the difference of two sketches, as kc_sums_difference does; it is ordered if `ordered` is 1, or if the first
+ * sketch is. Refused as kc_sums_difference is, and with KC_INVALID_ARGUMENT if `ordered` is neither 0 nor 1. */
+kc_status kc_sums_difference_with(const kc_compact_sums *first, const kc_compact_sums *second, uint64_t seed,
+                                  uint32_t ordered, kc_compact_sums *out);
 
 /* ---- Hashes ---- */
 
@@ -384,6 +474,9 @@ kc_status kc_sums_difference(const kc_compact_sums *first, const kc_compact_sums
 kc_status kc_hash_bytes(uint64_t seed, const void *bytes, size_t count, uint64_t *hash);
 /* Writes the hash of a number's eight bytes under a seed, the lowest byte first, likewise. */
 kc_status kc_hash_u64(uint64_t seed, uint64_t number, uint64_t *hash);
+/* Writes the seed hash of a seed, from 1 to 65535, which images carry in place of the seed. Refused with
+ * KC_INVALID_ARGUMENT if it is 0; no sketch has such a seed. */
+kc_status kc_seed_hash(uint64_t seed, uint32_t *out);
 
 /* ---- Estimates ---- */
 
@@ -424,19 +517,22 @@ kc_status kc_wide_text(const kc_wide *number, char *text, size_t room, uint64_t 
 
 /* Returns what a status means, as a text with a final 0 byte, which is never freed. Any number may be passed. */
 const char *kc_status_text(kc_status status);
+/* Returns what a flaw of an image means, likewise. */
+const char *kc_flaw_text(uint32_t flaw);
 /* Returns the version of the library that the program is linked with, as such a text; that of this header is KC_VERSION. */
 const char *kc_version(void);
 
 /* ---- Estimates in floating point ---- */
 
-/* Returns the estimate of a state. Pass a state that a call has written. */
+/* Returns the estimate of a state: retained, divided by theta as a fraction of its greatest value, each as a double, which are
+ * the bits of the crate datasketches. Pass a state that a call has written. */
 static inline double kc_estimate(const kc_state *state) {
-    return (double)state->retained * ((double)KC_MAX_THETA / (double)state->theta);
+    return (double)state->retained / ((double)state->theta / (double)KC_MAX_THETA);
 }
 
 /* Returns the estimate of the total of all values; theta isn't 0. */
 static inline double kc_total(const kc_wide *total, uint64_t theta) {
-    return ((double)total->low + 18446744073709551616.0 * (double)total->high) * ((double)KC_MAX_THETA / (double)theta);
+    return ((double)total->low + 18446744073709551616.0 * (double)total->high) / ((double)theta / (double)KC_MAX_THETA);
 }
 
 #ifdef __cplusplus

@@ -2,10 +2,11 @@
  *
  * An object frees itself. It may be moved, not copied: clone() copies. One that was moved from may only be assigned to or
  * destroyed; each other call then throws. Keys and images are passed as Bytes: a std::string_view, a text, or a container
- * of bytes; numbers as Numbers. A call that the library refuses throws std::bad_alloc if memory was refused, and else an
- * Error, whose status() is the reason; kaftanclay.h says what has changed then.
+ * of bytes; numbers as Numbers. Bytes behind an image are refused as KC_INVALID_DATA. A call that is refused throws
+ * std::bad_alloc if memory was refused, and else an Error, whose status() is the reason; kaftanclay.h says what has changed
+ * then.
  *
- * Threads. An object is used by one call at a time, also by calls that are const.
+ * Threads. Calls that are const may use an object at the same time. While another call uses it, none else does.
  */
 #ifndef KAFTANCLAY_HPP
 #define KAFTANCLAY_HPP
@@ -114,6 +115,19 @@ template <class Buffer, class Call> Buffer written(Call call) {
     return out;
 }
 
+/* Refuses an image with bytes behind it. Other faults are for the call that reads it. */
+inline void check_end(kc_status status, const kc_finding &found, Bytes image) {
+    if (status == KC_OK && found.length != 0 && found.length < image.size()) throw Error(KC_INVALID_DATA);
+}
+inline void check_image(Bytes image, std::uint64_t seed) {
+    kc_finding found{};
+    check_end(kc_image_flaw(image.data(), image.size(), seed, &found), found, image);
+}
+inline void check_sums_image(Bytes image, std::uint64_t seed) {
+    kc_finding found{};
+    check_end(kc_sums_image_flaw(image.data(), image.size(), seed, &found), found, image);
+}
+
 } // namespace detail
 
 /* A number of 128 bits as text, and as the nearest double. */
@@ -198,9 +212,10 @@ inline std::uint64_t hash(std::uint64_t number, std::uint64_t seed = default_see
 /* A sketch that never changes. */
 class Compact : public detail::Handle<kc_compact, kc_compact_free> {
 public:
-    /* The sketch that an image begins with. */
+    /* The sketch of an image. */
     static Compact read(Bytes image, std::uint64_t seed = default_seed) {
         Compact out;
+        detail::check_image(image, seed);
         check(kc_compact_read(out.get(), image.data(), image.size(), seed));
         return out;
     }
@@ -286,20 +301,29 @@ private:
 /* Many sketches, to be merged together. */
 class Batch : public detail::Handle<kc_batch, kc_batch_free> {
 public:
-    explicit Batch(std::uint64_t seed = default_seed) { check(kc_batch_new(get(), seed)); }
+    explicit Batch(std::uint64_t seed = default_seed) : seed_(seed) { check(kc_batch_new(get(), seed)); }
     void add(const Theta &sketch) { check(kc_batch_add(get(), sketch.get())); }
     void add(const Compact &sketch) { check(kc_batch_add_compact(get(), sketch.get())); }
-    void add_image(Bytes image) { check(kc_batch_add_image(get(), image.data(), image.size())); }
+    void add_image(Bytes image) {
+        detail::check_image(image, seed_);
+        check(kc_batch_add_image(get(), image.data(), image.size()));
+    }
     void reset() { check(kc_batch_reset(get())); }
+
+private:
+    std::uint64_t seed_;
 };
 
 class Union : public detail::Handle<kc_union, kc_union_free> {
 public:
-    explicit Union(unsigned lg_k = default_lg_k, std::uint64_t seed = default_seed) { check(kc_union_new(get(), lg_k, seed)); }
+    explicit Union(unsigned lg_k = default_lg_k, std::uint64_t seed = default_seed) : seed_(seed) { check(kc_union_new(get(), lg_k, seed)); }
     void add(const Theta &sketch) { check(kc_union_add(get(), sketch.get())); }
     void add(const Compact &sketch) { check(kc_union_add_compact(get(), sketch.get())); }
     void add(const Batch &batch) { check(kc_union_add_batch(get(), batch.get())); }
-    void add_image(Bytes image) { check(kc_union_add_image(get(), image.data(), image.size())); }
+    void add_image(Bytes image) {
+        detail::check_image(image, seed_);
+        check(kc_union_add_image(get(), image.data(), image.size()));
+    }
     void reset() { check(kc_union_reset(get())); }
     Compact result() const {
         Compact out;
@@ -309,19 +333,28 @@ public:
     Image image() const {
         return detail::written<Image>([&](void *out, std::size_t room, std::uint64_t *length) { return kc_union_image(get(), out, room, length); });
     }
+
+private:
+    std::uint64_t seed_;
 };
 
 class Intersection : public detail::Handle<kc_intersection, kc_intersection_free> {
 public:
-    explicit Intersection(std::uint64_t seed = default_seed) { check(kc_intersection_new(get(), seed)); }
+    explicit Intersection(std::uint64_t seed = default_seed) : seed_(seed) { check(kc_intersection_new(get(), seed)); }
     void add(const Theta &sketch) { check(kc_intersection_add(get(), sketch.get())); }
     void add(const Compact &sketch) { check(kc_intersection_add_compact(get(), sketch.get())); }
-    void add_image(Bytes image) { check(kc_intersection_add_image(get(), image.data(), image.size())); }
+    void add_image(Bytes image) {
+        detail::check_image(image, seed_);
+        check(kc_intersection_add_image(get(), image.data(), image.size()));
+    }
     Compact result() const {
         Compact out;
         check(kc_intersection_result(get(), out.get()));
         return out;
     }
+
+private:
+    std::uint64_t seed_;
 };
 
 /* ---- Tuple sketches of sums ---- */
@@ -331,6 +364,7 @@ class CompactSums : public detail::Handle<kc_compact_sums, kc_compact_sums_free>
 public:
     static CompactSums read(Bytes image, std::uint64_t seed = default_seed) {
         CompactSums out;
+        detail::check_sums_image(image, seed);
         check(kc_compact_sums_read(out.get(), image.data(), image.size(), seed));
         return out;
     }
@@ -424,12 +458,15 @@ private:
 
 class SumsUnion : public detail::Handle<kc_sums_union, kc_sums_union_free> {
 public:
-    explicit SumsUnion(unsigned lg_k = default_lg_k, std::uint64_t seed = default_seed) {
+    explicit SumsUnion(unsigned lg_k = default_lg_k, std::uint64_t seed = default_seed) : seed_(seed) {
         check(kc_sums_union_new(get(), lg_k, seed));
     }
     void add(const Sums &sketch) { check(kc_sums_union_add(get(), sketch.get())); }
     void add(const CompactSums &sketch) { check(kc_sums_union_add_compact(get(), sketch.get())); }
-    void add_image(Bytes image) { check(kc_sums_union_add_image(get(), image.data(), image.size())); }
+    void add_image(Bytes image) {
+        detail::check_sums_image(image, seed_);
+        check(kc_sums_union_add_image(get(), image.data(), image.size()));
+    }
     void reset() { check(kc_sums_union_reset(get())); }
     CompactSums result() const {
         CompactSums out;
@@ -440,19 +477,28 @@ public:
         return detail::written<Image>(
             [&](void *out, std::size_t room, std::uint64_t *length) { return kc_sums_union_image(get(), out, room, length); });
     }
+
+private:
+    std::uint64_t seed_;
 };
 
 class SumsIntersection : public detail::Handle<kc_sums_intersection, kc_sums_intersection_free> {
 public:
-    explicit SumsIntersection(std::uint64_t seed = default_seed) { check(kc_sums_intersection_new(get(), seed)); }
+    explicit SumsIntersection(std::uint64_t seed = default_seed) : seed_(seed) { check(kc_sums_intersection_new(get(), seed)); }
     void add(const Sums &sketch) { check(kc_sums_intersection_add(get(), sketch.get())); }
     void add(const CompactSums &sketch) { check(kc_sums_intersection_add_compact(get(), sketch.get())); }
-    void add_image(Bytes image) { check(kc_sums_intersection_add_image(get(), image.data(), image.size())); }
+    void add_image(Bytes image) {
+        detail::check_sums_image(image, seed_);
+        check(kc_sums_intersection_add_image(get(), image.data(), image.size()));
+    }
     CompactSums result() const {
         CompactSums out;
         check(kc_sums_intersection_result(get(), out.get()));
         return out;
     }
+
+private:
+    std::uint64_t seed_;
 };
 
 } // namespace kaftanclay

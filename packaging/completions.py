@@ -13,12 +13,12 @@ def bash(help_text):
     """For bash. A value may be the next word, or follow =, which bash makes a word of its own."""
     cases, values = "", {}
     for command in help_text.commands:
-        flags = [it.flag + ("=" if it.form == "behind" else "") for it in command.options]
+        flags = [it for option in command.options for it in (option.short, option.flag + ("=" if option.form == "behind" else "")) if it]
         cases += f"        {command.name}) options='{' '.join([*flags, '--help'])}' ;;\n"
         for it in command.options:
             if it.value:
                 mark = "=" if it.form in ("behind", "optional") else "*"
-                values.setdefault((bash_answer(it), mark), set()).add(it.flag)
+                values.setdefault((bash_answer(it), mark), set()).update(flag for flag in (it.short, it.flag) if flag)
     rows = ""
     for (answer, mark), flags in sorted(values.items()):
         patterns = " | ".join(f"{flag}:{mark}" for flag in sorted(flags))
@@ -79,6 +79,7 @@ def fish(help_text):
             else:
                 kind = f"-x -a '{' '.join(it.choices)}'" if it.choices else "-x" if it.value else "-f"
             flag = f"-l {it.flag[2:]}" if it.flag.startswith("--") else f"-s {it.flag[1:]}"
+            flag = f"-s {it.short[1:]} {flag}" if it.short else flag
             lines.append(f"complete -c distinct -n '__fish_seen_subcommand_from {command.name}' {flag} {kind} -d {quoted(short(it.meaning))}")
     return "\n".join(lines) + "\n"
 
@@ -96,6 +97,8 @@ def zsh(help_text):
             form = {"": "", "needed": "=" if it.flag.startswith("--") else "", "behind": "=-", "optional": "=-"}[it.form]
             message = {"": "", "needed": f":{it.value}:{values}", "behind": f":{it.value}:{values}", "optional": f"::{it.value}:{values}"}[it.form]
             rows.append(f"                '{it.flag}{form}[{plain(short(it.meaning))}]{message}' \\\n")
+            if it.short:
+                rows.append(f"                '{it.short}{'+' if it.value else ''}[{plain(short(it.meaning))}]{message}' \\\n")
         cases += f"        {command.name})\n            _arguments \\\n{''.join(rows)}                '--help[print the options]' \\\n                '*:file:_files'\n            ;;\n"
     return f"""#compdef distinct
 # zsh {HEAD}

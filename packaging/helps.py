@@ -7,8 +7,9 @@ from dataclasses import dataclass, field
 
 @dataclass
 class Option:
-    """An option. Its value is `needed` (the next word, or behind =), `behind` = alone, `optional` behind =, or none, ''."""
+    """An option, its short name or ''. Its value is `needed` (the next word, or behind =), `behind` = alone, `optional` behind =, or none, ''."""
 
+    short: str
     flag: str
     form: str
     value: str
@@ -33,7 +34,7 @@ class Option:
 
 @dataclass
 class Command:
-    """A command: how it is called, what it does in a line and in whole, what else the help says, and its options."""
+    """A command: how it is called, what it does in a line and in whole, what else the help says, its options and its examples."""
 
     name: str
     synopsis: str
@@ -41,6 +42,7 @@ class Command:
     summary: str
     paragraphs: list = field(default_factory=list)
     options: list = field(default_factory=list)
+    examples: list = field(default_factory=list)
 
 
 @dataclass
@@ -65,48 +67,53 @@ def of_program(program):
 def read(version, text, text_of):
     """The help, from the version's line, the text of the whole, and a function from a command to its text."""
     blocks = text.rstrip("\n").split("\n\n")
-    rows = []
-    for line in blocks[1].split("\n"):
-        found = re.fullmatch(r"  (distinct \S.*?)  +(\S.*)", line)
-        if found is None:
-            sys.exit(f"manual: a line of the help is no call and its meaning: {line}")
-        rows.append(found.groups())
-    names = list(dict.fromkeys(words.split()[1] for words, _ in rows if re.match(r"distinct [a-z]+\b", words)))
-    lines = {words.split()[1]: meaning for words, meaning in rows}
-    commands = [command(it, lines[it], text_of(it)) for it in names]
-    status = [it for it in blocks[2:] if it.startswith("Status: ")]
-    others = [it for it in blocks[2:] if not it.startswith("Status: ")]
-    if len(status) != 1 or not commands:
-        sys.exit("manual: the help has no commands, or no paragraph that begins with 'Status: '")
-    return Help(version.split()[1], joined(blocks[0]).partition(": ")[2], rows, [joined(it) for it in others], joined(status[0])[8:], commands)
+    others = [joined(it) for it in blocks[2:] if not it.startswith("Status: ")]
+    status = [joined(it)[8:] for it in blocks[2:] if it.startswith("Status: ")]
+    names = re.match(r"Commands: ([a-z, ]+)\. ", others[0])
+    if len(status) != 1 or not names:
+        sys.exit("manual: the help has no paragraph that begins with 'Commands: ', or none with 'Status: '")
+    commands = [command(it, text_of(it)) for it in names[1].split(", ")]
+    others[0] = others[0][len(names[0]) :]
+    return Help(version.split()[1], joined(blocks[0]).partition(": ")[2], examples(blocks[1].split("\n")), others, status[0], commands)
 
 
-def command(name, line, text):
-    """A command, from its line in the help and from its own help."""
+def examples(lines):
+    """Calls, and what each does."""
+    found = [re.fullmatch(r"  (.*?\bdistinct \S.*?)  +(\S.*)", line) for line in lines]
+    if not all(found):
+        sys.exit(f"manual: a line of the help is no call and its meaning: {lines[found.index(None)]}")
+    return [it.groups() for it in found]
+
+
+def command(name, text):
+    """A command, from its own help."""
     head, _, rest = text.partition("\n\n")
     synopsis, _, summary = joined(head).partition(": ")
-    found = Command(name, synopsis, summary if line.startswith("..") else line, summary)
+    found = Command(name, synopsis, re.split(r"\. |: ", summary)[0], summary)
     for block in rest.rstrip("\n").split("\n\n"):
-        if not block.startswith("  -"):
+        heading, *rows = block.split("\n")
+        if heading == "Examples:":
+            found.examples = examples(rows)
+        elif heading.startswith(" "):
             found.paragraphs.append(joined(block))
-            continue
-        for row in block.split("\n"):
-            if row.startswith("  -"):
-                head, _, meaning = row.strip().partition("  ")
-                found.options.append(option(head, meaning.strip()))
-            else:
-                found.options[-1].meaning += " " + row.strip()
-    if not synopsis.startswith(f"distinct {name}") or not found.options:
-        sys.exit(f"manual: the help of {name} doesn't begin with its call, or has no options")
+        else:
+            for row in rows:
+                if re.match(r" {2,6}-", row):
+                    head, _, meaning = row.strip().partition("  ")
+                    found.options.append(option(head, meaning.strip()))
+                else:
+                    found.options[-1].meaning += " " + row.strip()
+    if not synopsis.startswith(f"distinct {name}") or not found.options or not found.examples:
+        sys.exit(f"manual: the help of {name} doesn't begin with its call, or has no options or examples")
     return found
 
 
 def option(head, meaning):
-    found = re.fullmatch(r"(-[A-Z]|--[a-z0-9-]+)(?:(\[=| |=)([A-Z]+)\]?)?", head)
+    found = re.fullmatch(r"(?:(-[a-z]), )?(-[A-Z]|--[a-z0-9-]+)(?:(\[=| |=)([A-Z/]+)\]?)?", head)
     if found is None:
         sys.exit(f"manual: the help has an option that can't be read: {head}")
-    form = {None: "", " ": "needed", "=": "behind", "[=": "optional"}[found[2]]
-    return Option(found[1], form, found[3] or "", meaning)
+    form = {None: "", " ": "needed", "=": "behind", "[=": "optional"}[found[3]]
+    return Option(found[1] or "", found[2], form, found[4] or "", meaning)
 
 
 def joined(block):

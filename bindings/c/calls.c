@@ -18,11 +18,15 @@ _Static_assert(sizeof(kc_sums_union) == 8, "the layout of the proved library");
 _Static_assert(sizeof(kc_sums_intersection) == 8, "the layout of the proved library");
 _Static_assert(sizeof(kc_state) == 24, "the layout of the proved library");
 _Static_assert(sizeof(kc_wide) == 16, "the layout of the proved library");
+_Static_assert(sizeof(kc_finding) == 16, "the layout of the proved library");
 _Static_assert(offsetof(kc_state, retained) == 0, "the layout of the proved library");
 _Static_assert(offsetof(kc_state, theta) == 8, "the layout of the proved library");
 _Static_assert(offsetof(kc_state, empty) == 16, "the layout of the proved library");
 _Static_assert(offsetof(kc_wide, low) == 0, "the layout of the proved library");
 _Static_assert(offsetof(kc_wide, high) == 8, "the layout of the proved library");
+_Static_assert(offsetof(kc_finding, flaw) == 0, "the layout of the proved library");
+_Static_assert(offsetof(kc_finding, found) == 4, "the layout of the proved library");
+_Static_assert(offsetof(kc_finding, length) == 8, "the layout of the proved library");
 _Static_assert(sizeof(size_t) == 8, "the layout of the proved library");
 
 #define REFUSE_UNLESS(condition) \
@@ -63,6 +67,11 @@ kc_status kc_theta_free(kc_theta *sketch) {
 kc_status kc_theta_update_hash(kc_theta *sketch, uint64_t hash) {
     REFUSE_UNLESS(sketch != NULL);
     return kcp_theta_update_hash(sketch, hash);
+}
+
+kc_status kc_theta_insert_hash(kc_theta *sketch, uint64_t hash, kc_state *out) {
+    REFUSE_UNLESS(sketch != NULL && out != NULL);
+    return kcp_theta_insert_hash(sketch, hash, out);
 }
 
 kc_status kc_theta_update_u64(kc_theta *sketch, uint64_t number) {
@@ -112,6 +121,25 @@ kc_status kc_theta_hashes(const kc_theta *sketch, uint64_t *hashes, size_t room,
     REFUSE_UNLESS(sketch != NULL && IS_BUFFER(hashes, room) && count != NULL);
     kc_theta sketch_reader = *sketch;
     return kcp_theta_hashes(&sketch_reader, NUMBERS(hashes, 0), room, count);
+}
+
+kc_status kc_theta_compact_with(const kc_theta *sketch, uint32_t ordered, kc_compact *out) {
+    REFUSE_UNLESS(sketch != NULL && out != NULL);
+    kc_theta sketch_reader = *sketch;
+    return kcp_theta_compact_with(&sketch_reader, ordered, out);
+}
+
+kc_status kc_theta_difference(const kc_theta *first, const kc_theta *second, uint64_t seed, kc_compact *out) {
+    REFUSE_UNLESS(first != NULL && second != NULL && out != NULL);
+    kc_theta first_reader = *first;
+    kc_theta second_reader = *second;
+    return kcp_theta_difference(&first_reader, &second_reader, seed, out);
+}
+
+kc_status kc_theta_estimated_size(const kc_theta *sketch, uint64_t *bytes) {
+    REFUSE_UNLESS(sketch != NULL && bytes != NULL);
+    kc_theta sketch_reader = *sketch;
+    return kcp_theta_estimated_size(&sketch_reader, bytes);
 }
 
 kc_status kc_theta_update_strings(kc_theta *sketch, const void *bytes, size_t bytes_count, const uint64_t *ends,
@@ -180,11 +208,34 @@ kc_status kc_compact_hashes(const kc_compact *sketch, uint64_t *hashes, size_t r
     return kcp_compact_hashes(&sketch_reader, NUMBERS(hashes, 0), room, count);
 }
 
+kc_status kc_compact_seed_hash(const kc_compact *sketch, uint32_t *out) {
+    REFUSE_UNLESS(sketch != NULL && out != NULL);
+    kc_compact sketch_reader = *sketch;
+    return kcp_compact_seed_hash(&sketch_reader, out);
+}
+
+kc_status kc_compact_is_ordered(const kc_compact *sketch, uint32_t *out) {
+    REFUSE_UNLESS(sketch != NULL && out != NULL);
+    kc_compact sketch_reader = *sketch;
+    return kcp_compact_is_ordered(&sketch_reader, out);
+}
+
+kc_status kc_compact_estimated_size(const kc_compact *sketch, uint64_t *bytes) {
+    REFUSE_UNLESS(sketch != NULL && bytes != NULL);
+    kc_compact sketch_reader = *sketch;
+    return kcp_compact_estimated_size(&sketch_reader, bytes);
+}
+
 /* ---- Unions ---- */
 
 kc_status kc_union_new(kc_union *u, uint32_t lg_k, uint64_t seed) {
     REFUSE_UNLESS(u != NULL);
     return kcp_union_new(u, lg_k, seed);
+}
+
+kc_status kc_union_new_with(kc_union *u, uint32_t lg_k, uint64_t seed, uint32_t resize_factor, uint64_t starting_theta) {
+    REFUSE_UNLESS(u != NULL);
+    return kcp_union_new_with(u, lg_k, seed, resize_factor, starting_theta);
 }
 
 kc_status kc_union_free(kc_union *u) {
@@ -230,6 +281,18 @@ kc_status kc_union_reset(kc_union *u) {
 kc_status kc_union_lower_lg_k(kc_union *u, uint32_t lg_k) {
     REFUSE_UNLESS(u != NULL);
     return kcp_union_lower_lg_k(u, lg_k);
+}
+
+kc_status kc_union_result_with(const kc_union *u, uint32_t ordered, kc_compact *out) {
+    REFUSE_UNLESS(u != NULL && out != NULL);
+    kc_union u_reader = *u;
+    return kcp_union_result_with(&u_reader, ordered, out);
+}
+
+kc_status kc_union_estimated_size(const kc_union *u, uint64_t *bytes) {
+    REFUSE_UNLESS(u != NULL && bytes != NULL);
+    kc_union u_reader = *u;
+    return kcp_union_estimated_size(&u_reader, bytes);
 }
 
 /* ---- Many sketches at once ---- */
@@ -309,11 +372,31 @@ kc_status kc_intersection_result(const kc_intersection *intersection, kc_compact
     return kcp_intersection_result(&intersection_reader, out);
 }
 
+kc_status kc_intersection_result_with(const kc_intersection *intersection, uint32_t ordered, kc_compact *out) {
+    REFUSE_UNLESS(intersection != NULL && out != NULL);
+    kc_intersection intersection_reader = *intersection;
+    return kcp_intersection_result_with(&intersection_reader, ordered, out);
+}
+
+kc_status kc_intersection_estimated_size(const kc_intersection *intersection, uint64_t *bytes) {
+    REFUSE_UNLESS(intersection != NULL && bytes != NULL);
+    kc_intersection intersection_reader = *intersection;
+    return kcp_intersection_estimated_size(&intersection_reader, bytes);
+}
+
 kc_status kc_difference(const kc_compact *first, const kc_compact *second, uint64_t seed, kc_compact *out) {
     REFUSE_UNLESS(first != NULL && second != NULL && out != NULL && first != out && second != out);
     kc_compact first_reader = *first;
     kc_compact second_reader = *second;
     return kcp_difference(&first_reader, &second_reader, seed, out);
+}
+
+kc_status kc_difference_with(const kc_compact *first, const kc_compact *second, uint64_t seed, uint32_t ordered,
+                             kc_compact *out) {
+    REFUSE_UNLESS(first != NULL && second != NULL && out != NULL && first != out && second != out);
+    kc_compact first_reader = *first;
+    kc_compact second_reader = *second;
+    return kcp_difference_with(&first_reader, &second_reader, seed, ordered, out);
 }
 
 /* ---- Images alone ---- */
@@ -335,6 +418,16 @@ kc_status kc_images_difference(const void *first, size_t first_count, const void
     REFUSE_UNLESS(IS_BUFFER(first, first_count) && IS_BUFFER(second, second_count) && IS_BUFFER(out, room) && length !=
                   NULL);
     return kcp_images_difference(INPUT(first), first_count, INPUT(second), second_count, seed, OUTPUT(out, 0), room, length);
+}
+
+kc_status kc_image_flaw(const void *image, size_t count, uint64_t seed, kc_finding *out) {
+    REFUSE_UNLESS(IS_BUFFER(image, count) && out != NULL);
+    return kcp_image_flaw(INPUT(image), count, seed, out);
+}
+
+kc_status kc_sums_image_flaw(const void *image, size_t count, uint64_t seed, kc_finding *out) {
+    REFUSE_UNLESS(IS_BUFFER(image, count) && out != NULL);
+    return kcp_sums_image_flaw(INPUT(image), count, seed, out);
 }
 
 /* ---- Tuple sketches of sums ---- */
@@ -418,6 +511,26 @@ kc_status kc_sums_entries(const kc_sums *sums, uint64_t *hashes, uint64_t *value
     return kcp_sums_entries(&sums_reader, NUMBERS(hashes, 0), room, NUMBERS(values, 1), room, count);
 }
 
+kc_status kc_sums_compact_with(const kc_sums *sums, uint32_t ordered, kc_compact_sums *out) {
+    REFUSE_UNLESS(sums != NULL && out != NULL);
+    kc_sums sums_reader = *sums;
+    return kcp_sums_compact_with(&sums_reader, ordered, out);
+}
+
+kc_status kc_sums_updatable_difference(const kc_sums *first, const kc_sums *second, uint64_t seed,
+                                       kc_compact_sums *out) {
+    REFUSE_UNLESS(first != NULL && second != NULL && out != NULL);
+    kc_sums first_reader = *first;
+    kc_sums second_reader = *second;
+    return kcp_sums_updatable_difference(&first_reader, &second_reader, seed, out);
+}
+
+kc_status kc_sums_estimated_size(const kc_sums *sums, uint64_t *bytes) {
+    REFUSE_UNLESS(sums != NULL && bytes != NULL);
+    kc_sums sums_reader = *sums;
+    return kcp_sums_estimated_size(&sums_reader, bytes);
+}
+
 kc_status kc_sums_add_hashes(kc_sums *sums, const uint64_t *hashes, size_t hashes_count, const uint64_t *values,
                              size_t values_count, uint64_t *added) {
     REFUSE_UNLESS(sums != NULL && IS_BUFFER(hashes, hashes_count) && IS_BUFFER(values, values_count) && added != NULL);
@@ -474,6 +587,24 @@ kc_status kc_compact_sums_total(const kc_compact_sums *sums, kc_wide *out) {
     REFUSE_UNLESS(sums != NULL && out != NULL);
     kc_compact_sums sums_reader = *sums;
     return kcp_compact_sums_total(&sums_reader, out);
+}
+
+kc_status kc_compact_sums_seed_hash(const kc_compact_sums *sums, uint32_t *out) {
+    REFUSE_UNLESS(sums != NULL && out != NULL);
+    kc_compact_sums sums_reader = *sums;
+    return kcp_compact_sums_seed_hash(&sums_reader, out);
+}
+
+kc_status kc_compact_sums_is_ordered(const kc_compact_sums *sums, uint32_t *out) {
+    REFUSE_UNLESS(sums != NULL && out != NULL);
+    kc_compact_sums sums_reader = *sums;
+    return kcp_compact_sums_is_ordered(&sums_reader, out);
+}
+
+kc_status kc_compact_sums_estimated_size(const kc_compact_sums *sums, uint64_t *bytes) {
+    REFUSE_UNLESS(sums != NULL && bytes != NULL);
+    kc_compact_sums sums_reader = *sums;
+    return kcp_compact_sums_estimated_size(&sums_reader, bytes);
 }
 
 /* ---- Unions of tuple sketches of sums ---- */
@@ -534,6 +665,18 @@ kc_status kc_sums_union_lower_lg_k(kc_sums_union *u, uint32_t lg_k) {
     return kcp_sums_union_lower_lg_k(u, lg_k);
 }
 
+kc_status kc_sums_union_result_with(const kc_sums_union *u, uint32_t ordered, kc_compact_sums *out) {
+    REFUSE_UNLESS(u != NULL && out != NULL);
+    kc_sums_union u_reader = *u;
+    return kcp_sums_union_result_with(&u_reader, ordered, out);
+}
+
+kc_status kc_sums_union_estimated_size(const kc_sums_union *u, uint64_t *bytes) {
+    REFUSE_UNLESS(u != NULL && bytes != NULL);
+    kc_sums_union u_reader = *u;
+    return kcp_sums_union_estimated_size(&u_reader, bytes);
+}
+
 /* ---- Intersections and differences of tuple sketches of sums ---- */
 
 kc_status kc_sums_intersection_new(kc_sums_intersection *intersection, uint64_t seed) {
@@ -570,12 +713,33 @@ kc_status kc_sums_intersection_result(const kc_sums_intersection *intersection, 
     return kcp_sums_intersection_result(&intersection_reader, out);
 }
 
+kc_status kc_sums_intersection_result_with(const kc_sums_intersection *intersection, uint32_t ordered,
+                                           kc_compact_sums *out) {
+    REFUSE_UNLESS(intersection != NULL && out != NULL);
+    kc_sums_intersection intersection_reader = *intersection;
+    return kcp_sums_intersection_result_with(&intersection_reader, ordered, out);
+}
+
+kc_status kc_sums_intersection_estimated_size(const kc_sums_intersection *intersection, uint64_t *bytes) {
+    REFUSE_UNLESS(intersection != NULL && bytes != NULL);
+    kc_sums_intersection intersection_reader = *intersection;
+    return kcp_sums_intersection_estimated_size(&intersection_reader, bytes);
+}
+
 kc_status kc_sums_difference(const kc_compact_sums *first, const kc_compact_sums *second, uint64_t seed,
                              kc_compact_sums *out) {
     REFUSE_UNLESS(first != NULL && second != NULL && out != NULL && first != out && second != out);
     kc_compact_sums first_reader = *first;
     kc_compact_sums second_reader = *second;
     return kcp_sums_difference(&first_reader, &second_reader, seed, out);
+}
+
+kc_status kc_sums_difference_with(const kc_compact_sums *first, const kc_compact_sums *second, uint64_t seed,
+                                  uint32_t ordered, kc_compact_sums *out) {
+    REFUSE_UNLESS(first != NULL && second != NULL && out != NULL && first != out && second != out);
+    kc_compact_sums first_reader = *first;
+    kc_compact_sums second_reader = *second;
+    return kcp_sums_difference_with(&first_reader, &second_reader, seed, ordered, out);
 }
 
 /* ---- Hashes ---- */
@@ -590,6 +754,11 @@ kc_status kc_hash_u64(uint64_t seed, uint64_t number, uint64_t *hash) {
     REFUSE_UNLESS(hash != NULL);
     *hash = kcp_hash_u64(seed, number);
     return KC_OK;
+}
+
+kc_status kc_seed_hash(uint64_t seed, uint32_t *out) {
+    REFUSE_UNLESS(out != NULL);
+    return kcp_seed_hash(seed, out);
 }
 
 /* ---- Estimates ---- */
@@ -653,6 +822,21 @@ const char *kc_status_text(kc_status status) {
     case KC_FAILED: return "memory or a sum was refused in an earlier merge; the union refuses all sketches until it is reset";
     case KC_TOO_SMALL: return "the buffer is too small; *length is the room that is needed";
     default: return "a number that is no status of this library";
+    }
+}
+
+const char *kc_flaw_text(uint32_t flaw) {
+    switch (flaw) {
+    case KC_FLAW_HEXADECIMAL: return "they begin with 16 hexadecimal digits: turn the digits into bytes";
+    case KC_FLAW_SHORT: return "there are fewer than eight bytes";
+    case KC_FLAW_FAMILY: return "the image is of another family of sketches, which is `found`: 3 is that of theta sketches, 9 of tuple sketches";
+    case KC_FLAW_VERSION: return "the image is of a version that is not read, which is `found`; version 4 is compressed";
+    case KC_FLAW_BIG_ENDIAN: return "the image is flagged as one of numbers with the highest byte first";
+    case KC_FLAW_SEED: return "the image has another seed hash, and is not that of an empty sketch";
+    case KC_FLAW_CUT: return "the image is longer than the bytes, or they end within its preamble";
+    case KC_FLAW_LONGER: return "bytes follow the image";
+    case KC_FLAW_DAMAGED: return "the preamble, the sketch type, theta or the hashes are not valid; it is also written for bytes without a flaw";
+    default: return "a number that is no flaw of an image";
     }
 }
 

@@ -17,7 +17,8 @@ from dataclasses import dataclass, field
 TOP = os.path.join(os.path.dirname(os.path.abspath(__file__)), "..", "..")
 EXPORTS = "crates/c_library/src"
 STATUSES = "crates/c_objects/src/status.rt"
-STRUCTS = ("crates/c_handles/src/handles.rt", "crates/c_objects/src/state.rt", "crates/c_objects/src/bounds.rt")
+FLAWS = "crates/c_objects/src/flaws.rt"
+STRUCTS = ("crates/c_handles/src/handles.rt", "crates/c_objects/src/state.rt", "crates/c_objects/src/bounds.rt", FLAWS)
 READERS = "crates/c_handles/src/readers.rt"
 # The numbers that C has by name, each with the file of its constant and the constant's name there.
 NUMBERS = {"DEFAULT_SEED": ("crates/sketch_base/src/seed.rt", "DEFAULT_UPDATE_SEED"), "MAX_THETA": ("crates/core_laws/src/lib.rt", "MAX_THETA")}
@@ -40,22 +41,25 @@ OF_C = """\
 
 /* Returns what a status means, as a text with a final 0 byte, which is never freed. Any number may be passed. */
 const char *kc_status_text(kc_status status);
+/* Returns what a flaw of an image means, likewise. */
+const char *kc_flaw_text(uint32_t flaw);
 /* Returns the version of the library that the program is linked with, as such a text; that of this header is KC_VERSION. */
 const char *kc_version(void);
 
 /* ---- Estimates in floating point ---- */
 
-/* Returns the estimate of a state. Pass a state that a call has written. */
+/* Returns the estimate of a state: retained, divided by theta as a fraction of its greatest value, each as a double, which are
+ * the bits of the crate datasketches. Pass a state that a call has written. */
 static inline double kc_estimate(const kc_state *state) {
-    return (double)state->retained * ((double)KC_MAX_THETA / (double)state->theta);
+    return (double)state->retained / ((double)state->theta / (double)KC_MAX_THETA);
 }
 
 /* Returns the estimate of the total of all values; theta isn't 0. */
 static inline double kc_total(const kc_wide *total, uint64_t theta) {
-    return ((double)total->low + 18446744073709551616.0 * (double)total->high) * ((double)KC_MAX_THETA / (double)theta);
+    return ((double)total->low + 18446744073709551616.0 * (double)total->high) / ((double)theta / (double)KC_MAX_THETA);
 }
 """
-CALLS_OF_C = ("kc_status_text", "kc_version")
+CALLS_OF_C = ("kc_status_text", "kc_flaw_text", "kc_version")
 
 
 def stop(place, reason):
@@ -148,14 +152,14 @@ def snake(name):
     return re.sub(r"(?<!^)(?=[A-Z])", "_", name).lower()
 
 
-def statuses():
-    """Each status: its name, its number and its meaning."""
-    text = text_of(STATUSES)
+def named_numbers(path):
+    """The numbers of a file that have names, statuses or flaws: each its name, its number and its meaning."""
+    text = text_of(path)
     found = []
     for it in re.finditer(r"(?m)^pub const (\w+): u32 = (\d+);$", text):
         meaning = joined(lines_above(text, it.start()))
         if not meaning.endswith("."):
-            stop(STATUSES, f"{it[1]} has no doc comment of a sentence")
+            stop(path, f"{it[1]} has no doc comment of a sentence")
         found.append((it[1], int(it[2]), meaning[:1].lower() + meaning[1:-1]))
     return found
 
@@ -383,7 +387,25 @@ def declaration(result, name, parameters):
 # ---- The files
 
 
-def header(paragraphs, all_statuses, known, sections, version):
+def enumeration(numbers):
+    """An enum of C with a comment for each name."""
+    room = max(len(f"KC_{name} = {value},") for name, value, _ in numbers)
+    out = ["enum {"]
+    for at, (name, value, meaning) in enumerate(numbers):
+        row = f"KC_{name} = {value}" + ("," if at + 1 < len(numbers) else "")
+        comment = wrapped(meaning + " */", "", "", WIDTH - room - 8)
+        out.append(f"    {row:{room}} /* " + f"\n    {'':{room}}  * ".join(comment))
+    return [*out, "};"]
+
+
+def text_call(declared, argument, numbers, other):
+    """A call of C that returns the meaning of a number."""
+    out = [f"const char *{declared} {{\n    switch ({argument}) {{"]
+    out += [f'    case KC_{name}: return "{meaning}";' for name, _, meaning in numbers]
+    return "\n".join([*out, f'    default: return "{other}";\n    }}\n}}\n'])
+
+
+def header(paragraphs, all_statuses, flaws, known, sections, version):
     out = []
     for at, it in enumerate(paragraphs):
         first = "/* " if at == 0 else " * "
@@ -392,13 +414,11 @@ def header(paragraphs, all_statuses, known, sections, version):
     out += ["#ifndef KAFTANCLAY_H", "#define KAFTANCLAY_H", "#include <stddef.h>", "#include <stdint.h>", "#ifdef __cplusplus", 'extern "C" {', "#endif", ""]
     out += [f'#define KC_VERSION "{version}"']
     out += [f"#define KC_{name} UINT64_C({number(*place)})" for name, place in NUMBERS.items()]
-    out += ["", "typedef uint32_t kc_status;", "enum {"]
-    room = max(len(f"KC_{name} = {value},") for name, value, _ in all_statuses)
-    for at, (name, value, meaning) in enumerate(all_statuses):
-        row = f"KC_{name} = {value}" + ("," if at + 1 < len(all_statuses) else "")
-        comment = wrapped(meaning + " */", "", "", WIDTH - room - 8)
-        out.append(f"    {row:{room}} /* " + f"\n    {'':{room}}  * ".join(comment))
-    out += ["};", ""]
+    out += ["", "typedef uint32_t kc_status;"]
+    out += enumeration(all_statuses)
+    out += ["", "/* Why bytes are not one image. */"]
+    out += enumeration(flaws)
+    out.append("")
     handles = [it for it in known.values() if it.is_handle]
     room = max(len(it.name) for it in handles)
     out += [f"typedef struct {{ void *object; }} {it.name + ';':{room + 1}} /* {it.comment} */" for it in handles]
@@ -478,13 +498,14 @@ def body(call):
     return "\n".join([*out, "}"])
 
 
-def calls(all_statuses, known, sections):
+def calls(all_statuses, flaws, known, sections):
     out = [CALLS_HEAD + layout(known) + "\n" + CALLS_WORDS]
     for heading, found in sections:
         out += [f"/* ---- {heading} ---- */\n", "\n\n".join(map(body, found)) + "\n"]
-    out += ["/* ---- The library ---- */\n", "const char *kc_status_text(kc_status status) {\n    switch (status) {"]
-    out += [f'    case KC_{name}: return "{meaning}";' for name, _, meaning in all_statuses]
-    out += ['    default: return "a number that is no status of this library";\n    }\n}\n', "const char *kc_version(void) { return KC_VERSION; }\n"]
+    out.append("/* ---- The library ---- */\n")
+    out.append(text_call("kc_status_text(kc_status status)", "status", all_statuses, "a number that is no status of this library"))
+    out.append(text_call("kc_flaw_text(uint32_t flaw)", "flaw", flaws, "a number that is no flaw of an image"))
+    out.append("const char *kc_version(void) { return KC_VERSION; }\n")
     return "\n".join(out)
 
 
@@ -500,9 +521,10 @@ def symbols(names, version, old):
 def made():
     """Each file that is made, by its path, and a line on what was read."""
     comments = Comments()
-    all_statuses = statuses()
-    comments.statuses = {name for name, _, _ in all_statuses}
+    all_statuses, flaws = named_numbers(STATUSES), named_numbers(FLAWS)
+    comments.statuses = {name for name, _, _ in all_statuses + flaws}
     all_statuses = [(name, value, comments.of_c(STATUSES, meaning)) for name, value, meaning in all_statuses]
+    flaws = [(name, value, comments.of_c(FLAWS, meaning)) for name, value, meaning in flaws]
     known = structs(comments)
     reading = readers(known)
     version = text_of("VERSION").strip()
@@ -519,12 +541,12 @@ def made():
     if twice or unread:
         stop(EXPORTS, f"{', '.join(sorted(twice))} is exported twice" if twice else f"lib.rt names no module {', '.join(sorted(unread))}")
     files = {
-        HEADER: header(library_comment(comments), all_statuses, known, sections, version),
+        HEADER: header(library_comment(comments), all_statuses, flaws, known, sections, version),
         PROVED: proved(sections),
-        CALLS: calls(all_statuses, known, sections),
+        CALLS: calls(all_statuses, flaws, known, sections),
         SYMBOLS: symbols([*names, *CALLS_OF_C], version, text_of(SYMBOLS)),
     }
-    return files, f"{len(all_statuses)} statuses, {len(names)} exports, {len(known)} structs"
+    return files, f"{len(all_statuses)} statuses, {len(flaws)} flaws, {len(names)} exports, {len(known)} structs"
 
 
 def main():

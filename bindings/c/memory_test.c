@@ -32,7 +32,7 @@ static uint64_t of_numbers[MOST], of_strings[MOST], ends[MOST];
 static char text[MOST * 5];
 
 /* The calls that request memory, and how many were refused it. */
-static struct { const char *name; long refusals; } called[64];
+static struct { const char *name; long refusals; } called[80];
 
 /* The status of a call: that of memory exactly if a request was refused. */
 static kc_status counted(const char *name, kc_status status) {
@@ -74,7 +74,11 @@ static int has_first(kc_theta *sketch, const uint64_t *hashes, uint64_t least, u
 static kc_status update(kc_theta *s, int kind, uint64_t n) {
     if (kind == 0) return CALL(theta_update_u64, s, n);
     if (kind == 1) return CALL(theta_update_hash, s, of_numbers[n]);
-    return CALL(theta_update_bytes, s, &n, sizeof n);
+    if (kind == 2) return CALL(theta_update_bytes, s, &n, sizeof n);
+    kc_state after = {7, 7, 7};
+    kc_status status = CALL(theta_insert_hash, s, of_numbers[n], &after);
+    WANT(status == KC_OK ? after.empty == 0 : after.retained == 7 && after.theta == 7 && after.empty == 7);
+    return status;
 }
 
 /* One update of a kind after another, and a trim. */
@@ -103,7 +107,7 @@ static void updates_of_kind(int kind) {
 }
 
 static void updates_one_by_one(void) {
-    for (int kind = 0; kind < 3; kind++) updates_of_kind(kind);
+    for (int kind = 0; kind < 4; kind++) updates_of_kind(kind);
 }
 
 /* Many updates at a time. */
@@ -198,6 +202,8 @@ static void copies_and_images(void) {
     if (status == KC_OK) WANT(kc_theta_state(&copy, &after) == KC_OK && same(&before, &after) && kc_theta_free(&copy) == KC_OK);
     status = CALL(theta_compact, &s, &c);
     WANT(MAKES(status, c) && kc_theta_state(&s, &after) == KC_OK && same(&before, &after));
+    status = CALL(theta_compact_with, &s, 0, &r);
+    WANT(MAKES(status, r) && kc_compact_free(&r) == KC_OK && kc_theta_state(&s, &after) == KC_OK && same(&before, &after));
     status = CALL(compact_read, &d, image, image_length, SEED);
     WANT(MAKES(status, d));
     if (d.object != NULL) {
@@ -259,8 +265,12 @@ static void operators(void) {
         status = CALL(union_image, &u, out, BYTES, &length);
         WANT(IS(status) && (status == KC_OK || (length == 7 && out[0] == 7)));
         status = CALL(union_result, &u, &r);
+        WANT(MAKES(status, r) && kc_compact_free(&r) == KC_OK);
+        status = CALL(union_result_with, &u, 0, &r);
         WANT(MAKES(status, r) && kc_compact_free(&r) == KC_OK && kc_union_free(&u) == KC_OK);
     }
+    status = CALL(union_new_with, &u, LG_K, SEED, 2, KC_MAX_THETA);
+    WANT(MAKES(status, u) && kc_union_free(&u) == KC_OK);
     status = CALL(intersection_new, &i, SEED);
     WANT(MAKES(status, i));
     int n = 0;
@@ -271,11 +281,17 @@ static void operators(void) {
         n += status == KC_OK;
         status = CALL(intersection_result, &i, &r);
         WANT((n == 0 ? status == KC_INVALID_ARGUMENT && r.object == NULL : MAKES(status, r)) && kc_compact_free(&r) == KC_OK);
+        status = CALL(intersection_result_with, &i, 0, &r);
+        WANT((n == 0 ? status == KC_INVALID_ARGUMENT && r.object == NULL : MAKES(status, r)) && kc_compact_free(&r) == KC_OK);
     }
     WANT(i.object == NULL || n == 3);
     UNREFUSED(WANT(kc_compact_read(&r, image, image_length, SEED) == KC_OK));
     kc_compact d = {0};
     status = CALL(difference, &r, &c, SEED, &d);
+    WANT(MAKES(status, d) && kc_compact_free(&d) == KC_OK);
+    status = CALL(difference_with, &c, &r, SEED, 0, &d);
+    WANT(MAKES(status, d) && kc_compact_free(&d) == KC_OK);
+    status = CALL(theta_difference, &s, &s, SEED, &d);
     WANT(MAKES(status, d));
     kc_theta_free(&s), kc_compact_free(&c), kc_compact_free(&r), kc_compact_free(&d), kc_intersection_free(&i);
 }
@@ -351,6 +367,8 @@ static void sums_of_kind(int kind) {
         WANT(IS(status) && (status == KC_OK || (length == 7 && out[0] == 7)));
         status = CALL(sums_compact, &m, &c);
         WANT(MAKES(status, c) && kc_sums_state(&m, &after) == KC_OK && same(&before, &after));
+        status = CALL(sums_compact_with, &m, 0, &d);
+        WANT(MAKES(status, d) && kc_compact_sums_free(&d) == KC_OK && kc_sums_state(&m, &after) == KC_OK && same(&before, &after));
         status = CALL(sums_clone, &m, &copy);
         WANT(MAKES(status, copy) && kc_sums_state(&m, &after) == KC_OK && same(&before, &after));
         if (status == KC_OK) WANT(kc_sums_state(&copy, &after) == KC_OK && same(&before, &after) && kc_sums_free(&copy) == KC_OK);
@@ -448,6 +466,8 @@ static void operators_on_sums(void) {
         status = CALL(sums_union_image, &u, out, BYTES, &length);
         WANT(IS(status) && (status == KC_OK || (length == 7 && out[0] == 7)));
         status = CALL(sums_union_result, &u, &r);
+        WANT(MAKES(status, r) && kc_compact_sums_free(&r) == KC_OK);
+        status = CALL(sums_union_result_with, &u, 0, &r);
         WANT(MAKES(status, r) && kc_compact_sums_free(&r) == KC_OK && kc_sums_union_free(&u) == KC_OK);
     }
     status = CALL(sums_intersection_new, &i, SEED);
@@ -460,10 +480,16 @@ static void operators_on_sums(void) {
         n += status == KC_OK;
         status = CALL(sums_intersection_result, &i, &r);
         WANT((n == 0 ? status == KC_INVALID_ARGUMENT && r.object == NULL : MAKES(status, r)) && kc_compact_sums_free(&r) == KC_OK);
+        status = CALL(sums_intersection_result_with, &i, 0, &r);
+        WANT((n == 0 ? status == KC_INVALID_ARGUMENT && r.object == NULL : MAKES(status, r)) && kc_compact_sums_free(&r) == KC_OK);
     }
     WANT(i.object == NULL || n == 3);
     UNREFUSED(WANT(kc_compact_sums_read(&r, sums_image, sums_length, SEED) == KC_OK));
     status = CALL(sums_difference, &r, &c, SEED, &d);
+    WANT(MAKES(status, d) && kc_compact_sums_free(&d) == KC_OK);
+    status = CALL(sums_difference_with, &c, &r, SEED, 0, &d);
+    WANT(MAKES(status, d) && kc_compact_sums_free(&d) == KC_OK);
+    status = CALL(sums_updatable_difference, &m, &m, SEED, &d);
     WANT(MAKES(status, d));
     kc_sums_free(&m), kc_compact_sums_free(&c), kc_compact_sums_free(&d), kc_compact_sums_free(&r), kc_sums_intersection_free(&i);
 }

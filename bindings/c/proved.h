@@ -11,6 +11,7 @@ kc_status kcp_theta_new_with(kc_theta *sketch, uint32_t lg_k, uint64_t seed, uin
 kc_status kcp_theta_clone(kc_theta *sketch, kc_theta *out);
 void kcp_theta_free(kc_theta *sketch);
 kc_status kcp_theta_update_hash(kc_theta *sketch, uint64_t hash);
+kc_status kcp_theta_insert_hash(kc_theta *sketch, uint64_t hash, kc_state *out);
 kc_status kcp_theta_update_u64(kc_theta *sketch, uint64_t number);
 kc_status kcp_theta_update_bytes(kc_theta *sketch, const uint8_t *bytes, size_t count);
 kc_status kcp_theta_update_hashes(kc_theta *sketch, const uint64_t *hashes, size_t count);
@@ -20,6 +21,9 @@ kc_status kcp_theta_state(kc_theta *sketch, kc_state *out);
 kc_status kcp_theta_image(kc_theta *sketch, uint8_t *out, size_t out_room, uint64_t *length);
 kc_status kcp_theta_compact(kc_theta *sketch, kc_compact *out);
 kc_status kcp_theta_hashes(kc_theta *sketch, uint64_t *hashes, size_t hashes_room, uint64_t *count);
+kc_status kcp_theta_compact_with(kc_theta *sketch, uint32_t ordered, kc_compact *out);
+kc_status kcp_theta_difference(kc_theta *first, kc_theta *second, uint64_t seed, kc_compact *out);
+kc_status kcp_theta_estimated_size(kc_theta *sketch, uint64_t *bytes);
 kc_status kcp_theta_update_strings(kc_theta *sketch, const uint8_t *bytes, size_t bytes_count, const uint64_t *ends,
                                    size_t ends_count);
 
@@ -34,8 +38,13 @@ kc_status kcp_compact_clone(kc_compact *sketch, kc_compact *out);
 kc_status kcp_compact_state(kc_compact *sketch, kc_state *out);
 kc_status kcp_compact_image(kc_compact *sketch, uint8_t *out, size_t out_room, uint64_t *length);
 kc_status kcp_compact_hashes(kc_compact *sketch, uint64_t *hashes, size_t hashes_room, uint64_t *count);
+kc_status kcp_compact_seed_hash(kc_compact *sketch, uint32_t *out);
+kc_status kcp_compact_is_ordered(kc_compact *sketch, uint32_t *out);
+kc_status kcp_compact_estimated_size(kc_compact *sketch, uint64_t *bytes);
 
 kc_status kcp_union_new(kc_union *u, uint32_t lg_k, uint64_t seed);
+kc_status kcp_union_new_with(kc_union *u, uint32_t lg_k, uint64_t seed, uint32_t resize_factor,
+                             uint64_t starting_theta);
 void kcp_union_free(kc_union *u);
 kc_status kcp_union_add(kc_union *u, kc_theta *sketch);
 kc_status kcp_union_add_compact(kc_union *u, kc_compact *sketch);
@@ -44,6 +53,8 @@ kc_status kcp_union_result(kc_union *u, kc_compact *out);
 kc_status kcp_union_image(kc_union *u, uint8_t *out, size_t out_room, uint64_t *length);
 kc_status kcp_union_reset(kc_union *u);
 kc_status kcp_union_lower_lg_k(kc_union *u, uint32_t lg_k);
+kc_status kcp_union_result_with(kc_union *u, uint32_t ordered, kc_compact *out);
+kc_status kcp_union_estimated_size(kc_union *u, uint64_t *bytes);
 
 kc_status kcp_batch_new(kc_batch *batch, uint64_t seed);
 void kcp_batch_free(kc_batch *batch);
@@ -59,13 +70,18 @@ kc_status kcp_intersection_add(kc_intersection *intersection, kc_theta *sketch);
 kc_status kcp_intersection_add_compact(kc_intersection *intersection, kc_compact *sketch);
 kc_status kcp_intersection_add_image(kc_intersection *intersection, const uint8_t *image, size_t count);
 kc_status kcp_intersection_result(kc_intersection *intersection, kc_compact *out);
+kc_status kcp_intersection_result_with(kc_intersection *intersection, uint32_t ordered, kc_compact *out);
+kc_status kcp_intersection_estimated_size(kc_intersection *intersection, uint64_t *bytes);
 kc_status kcp_difference(kc_compact *first, kc_compact *second, uint64_t seed, kc_compact *out);
+kc_status kcp_difference_with(kc_compact *first, kc_compact *second, uint64_t seed, uint32_t ordered, kc_compact *out);
 
 kc_status kcp_image_state(const uint8_t *image, size_t count, uint64_t seed, kc_state *out);
 kc_status kcp_images_intersect(const uint8_t *first, size_t first_count, const uint8_t *second, size_t second_count,
                                uint64_t seed, uint8_t *out, size_t out_room, uint64_t *length);
 kc_status kcp_images_difference(const uint8_t *first, size_t first_count, const uint8_t *second, size_t second_count,
                                 uint64_t seed, uint8_t *out, size_t out_room, uint64_t *length);
+kc_status kcp_image_flaw(const uint8_t *image, size_t count, uint64_t seed, kc_finding *out);
+kc_status kcp_sums_image_flaw(const uint8_t *image, size_t count, uint64_t seed, kc_finding *out);
 
 kc_status kcp_sums_new(kc_sums *sums, uint32_t lg_k, uint64_t seed);
 kc_status kcp_sums_new_with(kc_sums *sums, uint32_t lg_k, uint64_t seed, uint32_t resize_factor,
@@ -83,6 +99,9 @@ kc_status kcp_sums_compact(kc_sums *sums, kc_compact_sums *out);
 kc_status kcp_sums_total(kc_sums *sums, kc_wide *out);
 kc_status kcp_sums_entries(kc_sums *sums, uint64_t *hashes, size_t hashes_room, uint64_t *values, size_t values_room,
                            uint64_t *count);
+kc_status kcp_sums_compact_with(kc_sums *sums, uint32_t ordered, kc_compact_sums *out);
+kc_status kcp_sums_updatable_difference(kc_sums *first, kc_sums *second, uint64_t seed, kc_compact_sums *out);
+kc_status kcp_sums_estimated_size(kc_sums *sums, uint64_t *bytes);
 kc_status kcp_sums_add_hashes(kc_sums *sums, const uint64_t *hashes, size_t hashes_count, const uint64_t *values,
                               size_t values_count, uint64_t *added);
 kc_status kcp_sums_add_strings(kc_sums *sums, const uint8_t *bytes, size_t bytes_count, const uint64_t *ends,
@@ -96,6 +115,9 @@ kc_status kcp_compact_sums_image(kc_compact_sums *sums, uint8_t *out, size_t out
 kc_status kcp_compact_sums_entries(kc_compact_sums *sums, uint64_t *hashes, size_t hashes_room, uint64_t *values,
                                    size_t values_room, uint64_t *count);
 kc_status kcp_compact_sums_total(kc_compact_sums *sums, kc_wide *out);
+kc_status kcp_compact_sums_seed_hash(kc_compact_sums *sums, uint32_t *out);
+kc_status kcp_compact_sums_is_ordered(kc_compact_sums *sums, uint32_t *out);
+kc_status kcp_compact_sums_estimated_size(kc_compact_sums *sums, uint64_t *bytes);
 
 kc_status kcp_sums_union_new(kc_sums_union *u, uint32_t lg_k, uint64_t seed);
 kc_status kcp_sums_union_new_with(kc_sums_union *u, uint32_t lg_k, uint64_t seed, uint32_t resize_factor,
@@ -108,6 +130,8 @@ kc_status kcp_sums_union_result(kc_sums_union *u, kc_compact_sums *out);
 kc_status kcp_sums_union_image(kc_sums_union *u, uint8_t *out, size_t out_room, uint64_t *length);
 kc_status kcp_sums_union_reset(kc_sums_union *u);
 kc_status kcp_sums_union_lower_lg_k(kc_sums_union *u, uint32_t lg_k);
+kc_status kcp_sums_union_result_with(kc_sums_union *u, uint32_t ordered, kc_compact_sums *out);
+kc_status kcp_sums_union_estimated_size(kc_sums_union *u, uint64_t *bytes);
 
 kc_status kcp_sums_intersection_new(kc_sums_intersection *intersection, uint64_t seed);
 void kcp_sums_intersection_free(kc_sums_intersection *intersection);
@@ -115,10 +139,15 @@ kc_status kcp_sums_intersection_add(kc_sums_intersection *intersection, kc_sums 
 kc_status kcp_sums_intersection_add_compact(kc_sums_intersection *intersection, kc_compact_sums *sketch);
 kc_status kcp_sums_intersection_add_image(kc_sums_intersection *intersection, const uint8_t *image, size_t count);
 kc_status kcp_sums_intersection_result(kc_sums_intersection *intersection, kc_compact_sums *out);
+kc_status kcp_sums_intersection_result_with(kc_sums_intersection *intersection, uint32_t ordered, kc_compact_sums *out);
+kc_status kcp_sums_intersection_estimated_size(kc_sums_intersection *intersection, uint64_t *bytes);
 kc_status kcp_sums_difference(kc_compact_sums *first, kc_compact_sums *second, uint64_t seed, kc_compact_sums *out);
+kc_status kcp_sums_difference_with(kc_compact_sums *first, kc_compact_sums *second, uint64_t seed, uint32_t ordered,
+                                   kc_compact_sums *out);
 
 uint64_t kcp_hash_bytes(uint64_t seed, const uint8_t *bytes, size_t count);
 uint64_t kcp_hash_u64(uint64_t seed, uint64_t number);
+kc_status kcp_seed_hash(uint64_t seed, uint32_t *out);
 
 void kcp_estimate_numerator(uint64_t retained, kc_wide *out);
 kc_status kcp_estimate_decimal(uint64_t retained, uint64_t theta, uint32_t places, kc_wide *whole, uint64_t *decimals);

@@ -60,8 +60,8 @@ static kc_sums_intersection shared_sums;
 
 typedef struct {
     int faults, checks;
-    unsigned char bytes[24][ROOM];
-    uint64_t lengths[24];
+    unsigned char bytes[40][ROOM];
+    uint64_t lengths[40];
     int images;
 } part;
 
@@ -101,6 +101,8 @@ static void read_theta(part *p) {
     kc_batch several = {0};
     kc_intersection common = {0};
     kc_state state = {0, 0, 0}, of_compact = {0, 0, 0};
+    uint32_t hash = 0, order = 0;
+    uint64_t size = 0;
     WANT(kc_theta_state(&theta, &state) == KC_OK && kc_compact_state(&first, &of_compact) == KC_OK);
     WANT(state.retained == of_compact.retained && state.theta == of_compact.theta && state.retained >= 1024);
     WANT(kc_theta_image(&theta, p->bytes[p->images], ROOM, &p->lengths[p->images]) == KC_OK);
@@ -113,6 +115,14 @@ static void read_theta(part *p) {
     keep(p, &made);
     WANT(kc_difference(&first, &first, SEED, &made) == KC_OK && kc_compact_state(&made, &state) == KC_OK && state.retained == 0);
     keep(p, &made);
+    WANT(kc_theta_difference(&theta, &few, SEED, &made) == KC_OK);
+    keep(p, &made);
+    WANT(kc_theta_difference(&few, &few, SEED, &made) == KC_OK && kc_compact_state(&made, &state) == KC_OK && state.retained == 0);
+    keep(p, &made);
+    WANT(kc_theta_compact_with(&theta, 0, &made) == KC_OK && kc_compact_seed_hash(&first, &hash) == KC_OK && kc_compact_is_ordered(&first, &order) == KC_OK && hash == 0x93cc && order == 1);
+    keep(p, &made);
+    WANT(kc_theta_estimated_size(&theta, &size) == KC_OK && kc_compact_estimated_size(&first, &size) == KC_OK && size == 8 * of_compact.retained);
+    WANT(kc_union_estimated_size(&both, &size) == KC_OK && kc_intersection_estimated_size(&shared, &size) == KC_OK);
     WANT(kc_union_result(&both, &made) == KC_OK);
     keep(p, &made);
     WANT(kc_union_image(&both, p->bytes[p->images], ROOM, &p->lengths[p->images]) == KC_OK);
@@ -132,7 +142,8 @@ static void read_theta(part *p) {
 /* Sketches of sums, likewise. */
 static void read_sums(part *p) {
     static const size_t room = 5000;
-    uint64_t *numbers = malloc(2 * room * sizeof *numbers), count = 0;
+    uint64_t *numbers = malloc(2 * room * sizeof *numbers), count = 0, size = 0;
+    uint32_t hash = 0, order = 0;
     kc_sums copy = {0};
     kc_compact_sums made = {0};
     kc_sums_union u = {0};
@@ -151,6 +162,12 @@ static void read_sums(part *p) {
     keep_sums(p, &made);
     WANT(kc_sums_difference(&first_sums, &first_sums, SEED, &made) == KC_OK && kc_compact_sums_state(&made, &state) == KC_OK && state.retained == 0);
     keep_sums(p, &made);
+    WANT(kc_sums_updatable_difference(&sums, &sums, SEED, &made) == KC_OK && kc_compact_sums_state(&made, &state) == KC_OK && state.retained == 0);
+    keep_sums(p, &made);
+    WANT(kc_sums_compact_with(&sums, 0, &made) == KC_OK && kc_compact_sums_seed_hash(&first_sums, &hash) == KC_OK && kc_compact_sums_is_ordered(&first_sums, &order) == KC_OK && hash == 0x93cc && order == 1);
+    keep_sums(p, &made);
+    WANT(kc_sums_estimated_size(&sums, &size) == KC_OK && kc_compact_sums_estimated_size(&second_sums, &size) == KC_OK && size == 16 * of_compact.retained);
+    WANT(kc_sums_union_estimated_size(&both_sums, &size) == KC_OK && kc_sums_intersection_estimated_size(&shared_sums, &size) == KC_OK);
     WANT(kc_sums_union_result(&both_sums, &made) == KC_OK);
     keep_sums(p, &made);
     WANT(kc_sums_union_image(&both_sums, p->bytes[p->images], ROOM, &p->lengths[p->images]) == KC_OK);
@@ -166,12 +183,51 @@ static void read_sums(part *p) {
     keep_sums(p, &made);
 }
 
+/* What an array takes of shared sketches, a shared compact form's image, and values that needn't be ordered. */
+static void read_more_of_theta(part *p) {
+    static const size_t room = 5000;
+    uint64_t *numbers = malloc(room * sizeof *numbers), count = 0;
+    kc_compact made = {0};
+    WANT(numbers != NULL && kc_theta_hashes(&theta, numbers, room, &count) == KC_OK && count >= 1024);
+    WANT(kc_compact_hashes(&first, numbers, room, &count) == KC_OK && count >= 1024 && numbers[0] < numbers[1]);
+    free(numbers);
+    WANT(kc_compact_image(&first, p->bytes[p->images], ROOM, &p->lengths[p->images]) == KC_OK);
+    p->images++;
+    WANT(kc_union_result_with(&both, 0, &made) == KC_OK);
+    keep(p, &made);
+    WANT(kc_intersection_result_with(&shared, 0, &made) == KC_OK);
+    keep(p, &made);
+    WANT(kc_difference_with(&first, &second, SEED, 0, &made) == KC_OK);
+    keep(p, &made);
+}
+
+/* Of sums likewise. */
+static void read_more_of_sums(part *p) {
+    static const size_t room = 5000;
+    uint64_t *numbers = malloc(2 * room * sizeof *numbers), count = 0;
+    kc_compact_sums made = {0};
+    WANT(numbers != NULL && kc_sums_entries(&sums, numbers, numbers + room, room, &count) == KC_OK && count >= 900 && numbers[room] == 3);
+    free(numbers);
+    WANT(kc_compact_sums_image(&first_sums, p->bytes[p->images], ROOM, &p->lengths[p->images]) == KC_OK);
+    p->images++;
+    WANT(kc_compact_sums_clone(&first_sums, &made) == KC_OK);
+    keep_sums(p, &made);
+    WANT(kc_sums_union_result_with(&both_sums, 0, &made) == KC_OK);
+    keep_sums(p, &made);
+    WANT(kc_sums_intersection_result_with(&shared_sums, 0, &made) == KC_OK);
+    keep_sums(p, &made);
+    WANT(kc_sums_difference_with(&first_sums, &second_sums, SEED, 0, &made) == KC_OK);
+    keep_sums(p, &made);
+}
+
 static void *read_all(void *of) {
     part *p = of;
     for (int turn = 0; turn < TURNS; turn++) {
         p->images = 0;
         read_theta(p);
+        read_more_of_theta(p);
         read_sums(p);
+        read_more_of_sums(p);
     }
     return NULL;
 }

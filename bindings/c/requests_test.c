@@ -59,8 +59,12 @@ static void theta(void) {
     NOTHING(KC_OK, kc_theta_update_hash(&s, 1));
     NOTHING(KC_OK, kc_theta_update_hash(&s, KC_MAX_THETA));
     NOTHING(KC_OK, kc_theta_update_hash(&s, UINT64_MAX));
+    NOTHING(KC_OK, kc_theta_insert_hash(&s, 1, &state));
+    NOTHING(KC_OK, kc_theta_insert_hash(&s, KC_MAX_THETA, &state));
     NOTHING(KC_OK, kc_theta_state(&s, &state));
     WANT(state.retained == 42);
+    NOTHING(KC_OK, kc_theta_estimated_size(&s, &length));
+    WANT(length == 64 * SLOT);
     ASKS(KC_OK, 2, 42 * SLOT + 360, kc_theta_image(&s, out, ROOM, &length));
     WANT(length == 360);
     ASKS(KC_OK, 1, 42 * SLOT, kc_image_state(out, length, SEED, &state));
@@ -145,7 +149,16 @@ static void operators(void) {
     NOTHING(KC_INVALID_ARGUMENT, kc_difference(&d, &e, 50541, &r));
     NOTHING(KC_INVALID_ARGUMENT, kc_difference(&e, &d, 50541, &r));
     NOTHING(KC_INVALID_ARGUMENT, kc_difference(&c, &e, 50541, &r));
+    NOTHING(KC_INVALID_ARGUMENT, kc_theta_difference(&few, &other, SEED, &r));
+    NOTHING(KC_INVALID_ARGUMENT, kc_theta_difference(&few, &few, 50541, &r));
+    NOTHING(KC_INVALID_ARGUMENT, kc_difference_with(&c, &d, SEED, 2, &r));
+    NOTHING(KC_INVALID_ARGUMENT, kc_theta_compact_with(&few, 2, &r));
+    NOTHING(KC_INVALID_ARGUMENT, kc_union_result_with(&u, 2, &r));
     WANT(r.object == NULL);
+    /* a compact form takes an object and its hashes, ordered or not */
+    ASKS(KC_OK, 2, 60 * SLOT + object, kc_theta_compact_with(&few, 0, &r));
+    kc_compact_free(&r);
+    ASKS(KC_OK, 2, 60 * SLOT + object, kc_theta_compact_with(&few, 1, &r));
     kc_theta_free(&few), kc_theta_free(&none), kc_theta_free(&other), kc_union_free(&u), kc_intersection_free(&i);
     kc_compact_free(&c), kc_compact_free(&d), kc_compact_free(&e), kc_compact_free(&r);
 }

@@ -298,6 +298,114 @@ static void union_settings(void) {
     WANT(kc_sums_union_result(&su, &sr) == KC_OK && kc_compact_sums_state(&sr, &st) == KC_OK && st.retained == 256 && st.theta < half);
     WANT(kc_compact_sums_free(&sr) == KC_OK && kc_sums_union_free(&su) == KC_OK && kc_sums_union_lower_lg_k(&su, 8) == KC_INVALID_ARGUMENT);
     WANT(kc_theta_free(&a) == KC_OK && kc_sums_free(&m) == KC_OK);
+    /* a starting theta: that of each value, also after a reset; no value depends on the resize factor */
+    WANT(kc_theta_new(&a, 12, SEED) == KC_OK && kc_union_new_with(&u, 12, SEED, 3, half) == KC_INVALID_ARGUMENT && kc_union_new_with(&u, 12, SEED, 0, half) == KC_INVALID_ARGUMENT);
+    WANT(kc_union_new_with(&u, 12, SEED, 2, 0) == KC_INVALID_ARGUMENT && kc_union_new_with(&u, 12, SEED, 2, KC_MAX_THETA + 1) == KC_INVALID_ARGUMENT);
+    WANT(kc_union_new_with(&u, 256 + 12, SEED, 2, half) == KC_INVALID_ARGUMENT && kc_union_new_with(&u, 12, 50541, 2, half) == KC_INVALID_ARGUMENT && u.object == NULL);
+    WANT(kc_union_new_with(NULL, 12, SEED, 2, half) == KC_INVALID_ARGUMENT && kc_union_new_with(&u, 12, SEED, 2, half) == KC_OK && kc_union_new_with(&u, 12, SEED, 2, half) == KC_INVALID_ARGUMENT);
+    WANT(kc_union_new_with(&few, 12, SEED, 1, half) == KC_OK);
+    numbers(&a, 0, 3000);
+    for (int turn = 0; turn < 2; turn++) {
+        WANT(kc_union_add(&u, &a) == KC_OK && kc_union_image(&u, a_image, sizeof a_image, &a_length) == KC_OK && kc_image_state(a_image, a_length, SEED, &st) == KC_OK);
+        WANT(st.theta == half && is_near(kc_estimate(&st), 3000) && kc_union_reset(&u) == KC_OK);
+    }
+    WANT(kc_union_add(&few, &a) == KC_OK && kc_union_image(&few, b_image, sizeof b_image, &b_length) == KC_OK && a_length == b_length && memcmp(a_image, b_image, a_length) == 0);
+    WANT(kc_union_free(&u) == KC_OK && kc_union_free(&few) == KC_OK && kc_theta_free(&a) == KC_OK);
+}
+
+/* One hash, and the state after it. */
+static void one_hash(void) {
+    const uint64_t half = KC_MAX_THETA / 2;
+    kc_theta s = {0}, same = {0};
+    kc_state st = {7, 7, 7}, at, before;
+    WANT(kc_theta_insert_hash(&s, 5, &st) == KC_INVALID_ARGUMENT && kc_theta_insert_hash(NULL, 5, &st) == KC_INVALID_ARGUMENT && st.retained == 7 && st.theta == 7 && st.empty == 7);
+    WANT(kc_theta_new_with(&s, 5, SEED, 2, half) == KC_OK && kc_theta_new_with(&same, 5, SEED, 8, half) == KC_OK && kc_theta_insert_hash(&s, 5, NULL) == KC_INVALID_ARGUMENT);
+    WANT(kc_theta_state(&s, &st) == KC_OK && st.empty == 1 && st.theta == KC_MAX_THETA);
+    /* screened: 0, and one that is at least theta; new; present */
+    WANT(kc_theta_insert_hash(&s, 0, &st) == KC_OK && st.retained == 0 && st.theta == half && st.empty == 0);
+    WANT(kc_theta_insert_hash(&s, half, &st) == KC_OK && st.retained == 0 && kc_theta_insert_hash(&s, half - 1, &st) == KC_OK && st.retained == 1);
+    WANT(kc_theta_insert_hash(&s, half - 1, &st) == KC_OK && st.retained == 1 && st.theta == half && kc_theta_update_hash(&same, half - 1) == KC_OK);
+    /* as kc_theta_update_hash; each new hash shows, until theta is lowered */
+    for (uint64_t hash = 500; hash > 0; hash--) {
+        before = st;
+        WANT(kc_theta_insert_hash(&s, hash, &st) == KC_OK && kc_theta_update_hash(&same, hash) == KC_OK && kc_theta_state(&same, &at) == KC_OK && memcmp(&st, &at, sizeof st) == 0);
+        WANT(st.theta < before.theta ? st.retained <= before.retained : st.theta == before.theta && st.retained == before.retained + 1);
+    }
+    WANT(st.theta < half && kc_theta_free(&s) == KC_OK && kc_theta_free(&same) == KC_OK);
+}
+
+static int is_ordered(const kc_compact *sketch) {
+    uint32_t ordered = 7;
+    WANT(kc_compact_is_ordered(sketch, &ordered) == KC_OK && ordered <= 1);
+    return ordered == 1;
+}
+
+static int are_ordered(const kc_compact_sums *sketch) {
+    uint32_t ordered = 7;
+    WANT(kc_compact_sums_is_ordered(sketch, &ordered) == KC_OK && ordered <= 1);
+    return ordered == 1;
+}
+
+/* Whether two sketches have one state and the same hashes, in any order. Both are freed. */
+static int have_same_hashes(kc_compact *a, kc_compact *b) {
+    static uint64_t listed[2][8192];
+    kc_state s = state_of(a), t = state_of(b);
+    uint64_t count[2] = {0, 0};
+    WANT(kc_compact_hashes(a, listed[0], 8192, &count[0]) == KC_OK && kc_compact_hashes(b, listed[1], 8192, &count[1]) == KC_OK);
+    WANT(kc_compact_free(a) == KC_OK && kc_compact_free(b) == KC_OK);
+    for (int n = 0; n < 2; n++) qsort(listed[n], count[n], sizeof **listed, by_number);
+    return memcmp(&s, &t, sizeof s) == 0 && count[0] == count[1] && memcmp(listed[0], listed[1], count[0] * sizeof **listed) == 0;
+}
+
+/* Compact forms, results and differences, ordered or not; seed hashes and sizes. */
+static void orders(void) {
+    kc_theta s = {0}, few = {0}, none = {0};
+    kc_compact c = {0}, d = {0}, e = {0}, f = {0};
+    kc_union u = {0};
+    kc_intersection i = {0};
+    uint32_t hash = 7;
+    uint64_t bytes = 7;
+    WANT(kc_theta_new(&s, 12, SEED) == KC_OK && kc_theta_new(&few, 12, SEED) == KC_OK && kc_union_new(&u, 12, SEED) == KC_OK && kc_intersection_new(&i, SEED) == KC_OK);
+    numbers(&s, 0, 100000), numbers(&few, 0, 5000);
+    WANT(kc_theta_compact_with(&s, 2, &c) == KC_INVALID_ARGUMENT && kc_theta_compact_with(&s, UINT32_MAX, &c) == KC_INVALID_ARGUMENT && c.object == NULL);
+    WANT(kc_theta_compact_with(&none, 0, &c) == KC_INVALID_ARGUMENT && kc_theta_compact_with(NULL, 0, &c) == KC_INVALID_ARGUMENT && kc_theta_compact_with(&s, 0, NULL) == KC_INVALID_ARGUMENT);
+    WANT(kc_theta_compact_with(&s, 0, &c) == KC_OK && kc_theta_compact_with(&s, 0, &c) == KC_INVALID_ARGUMENT && !is_ordered(&c));
+    WANT(kc_theta_compact_with(&s, 1, &d) == KC_OK && is_ordered(&d) && kc_theta_compact(&s, &e) == KC_OK && is_ordered(&e) && have_same_hashes(&d, &e));
+    WANT(kc_compact_clone(&c, &e) == KC_OK && !is_ordered(&e) && kc_theta_compact(&s, &d) == KC_OK && have_same_hashes(&d, &e));
+    /* the image of one that isn't ordered is read as such */
+    WANT(kc_compact_image(&c, a_image, sizeof a_image, &a_length) == KC_OK && kc_compact_read(&d, a_image, a_length, SEED) == KC_OK && !is_ordered(&d) && kc_compact_free(&d) == KC_OK);
+    /* results */
+    WANT(kc_union_add(&u, &few) == KC_OK && kc_union_add_compact(&u, &c) == KC_OK && kc_intersection_add(&i, &few) == KC_OK);
+    WANT(kc_intersection_result_with(&i, 0, &d) == KC_OK && !is_ordered(&d) && kc_compact_free(&d) == KC_OK && kc_intersection_add_compact(&i, &c) == KC_OK);
+    WANT(kc_union_result_with(&u, 2, &d) == KC_INVALID_ARGUMENT && kc_intersection_result_with(&i, 2, &d) == KC_INVALID_ARGUMENT && d.object == NULL);
+    WANT(kc_union_result_with(&u, 0, &c) == KC_INVALID_ARGUMENT && kc_intersection_result_with(&i, 0, &c) == KC_INVALID_ARGUMENT);
+    WANT(kc_union_result_with(&u, 0, &d) == KC_OK && !is_ordered(&d) && kc_union_result(&u, &e) == KC_OK && is_ordered(&e) && have_same_hashes(&d, &e));
+    WANT(kc_union_result_with(&u, 1, &d) == KC_OK && is_ordered(&d) && kc_union_result(&u, &e) == KC_OK && have_same_hashes(&d, &e));
+    WANT(kc_intersection_result_with(&i, 0, &d) == KC_OK && kc_intersection_result(&i, &e) == KC_OK && is_ordered(&e) && have_same_hashes(&d, &e));
+    WANT(kc_intersection_result_with(&i, 1, &d) == KC_OK && is_ordered(&d) && kc_intersection_result(&i, &e) == KC_OK && have_same_hashes(&d, &e));
+    /* differences: that of sketches that take updates is that of their compact forms; the first's order is kept */
+    WANT(kc_theta_compact(&few, &f) == KC_OK && kc_difference_with(&c, &f, SEED, 2, &d) == KC_INVALID_ARGUMENT && d.object == NULL);
+    WANT(kc_difference_with(&c, &f, SEED, 0, &d) == KC_OK && !is_ordered(&d) && state_of(&d).retained > 0 && kc_difference(&c, &f, SEED, &e) == KC_OK && is_ordered(&e) && have_same_hashes(&d, &e));
+    WANT(kc_difference_with(&c, &f, SEED, 1, &d) == KC_OK && is_ordered(&d) && kc_theta_difference(&s, &few, SEED, &e) == KC_OK && is_ordered(&e) && have_same_hashes(&d, &e));
+    WANT(kc_difference_with(&f, &c, SEED, 0, &d) == KC_OK && is_ordered(&d) && kc_theta_difference(&few, &s, SEED, &e) == KC_OK && have_same_hashes(&d, &e));
+    WANT(kc_difference_with(&f, &c, SEED + 1, 0, &d) == KC_INVALID_ARGUMENT && kc_difference_with(&f, &c, 50541, 0, &d) == KC_INVALID_ARGUMENT && kc_difference_with(&f, &d, SEED, 0, &e) == KC_INVALID_ARGUMENT);
+    WANT(kc_theta_difference(&s, &few, SEED + 1, &d) == KC_INVALID_ARGUMENT && kc_theta_difference(&s, &few, 50541, &d) == KC_INVALID_ARGUMENT && d.object == NULL);
+    WANT(kc_theta_difference(&s, &none, SEED, &d) == KC_INVALID_ARGUMENT && kc_theta_difference(&none, &s, SEED, &d) == KC_INVALID_ARGUMENT && kc_theta_difference(NULL, &s, SEED, &d) == KC_INVALID_ARGUMENT);
+    WANT(kc_theta_difference(&s, &s, SEED, &d) == KC_OK && state_of(&d).retained == 0 && kc_theta_difference(&s, &few, SEED, &d) == KC_INVALID_ARGUMENT && kc_compact_free(&d) == KC_OK);
+    /* seed hashes: that of the default seed is 0x93cc, and that of 50541 is 0 */
+    WANT(kc_seed_hash(SEED, &hash) == KC_OK && hash == 0x93cc && kc_compact_seed_hash(&c, &hash) == KC_OK && hash == 0x93cc);
+    WANT(kc_seed_hash(50541, &hash) == KC_INVALID_ARGUMENT && kc_compact_seed_hash(&d, &hash) == KC_INVALID_ARGUMENT && kc_compact_is_ordered(&d, &hash) == KC_INVALID_ARGUMENT && hash == 0x93cc);
+    WANT(kc_seed_hash(SEED, NULL) == KC_INVALID_ARGUMENT && kc_compact_seed_hash(&c, NULL) == KC_INVALID_ARGUMENT && kc_compact_is_ordered(&c, NULL) == KC_INVALID_ARGUMENT);
+    /* 2^13 slots, and a list of hashes */
+    WANT(kc_theta_estimated_size(&s, &bytes) == KC_OK && bytes == 8 << 13 && kc_union_estimated_size(&u, &bytes) == KC_OK && bytes == 8 << 13);
+    WANT(kc_compact_estimated_size(&c, &bytes) == KC_OK && bytes == 8 * state_of(&c).retained && kc_intersection_result(&i, &d) == KC_OK);
+    WANT(kc_intersection_estimated_size(&i, &bytes) == KC_OK && bytes == 8 * state_of(&d).retained && kc_compact_free(&d) == KC_OK && kc_intersection_free(&i) == KC_OK);
+    WANT(kc_intersection_new(&i, SEED) == KC_OK && kc_intersection_estimated_size(&i, &bytes) == KC_OK && bytes == 0);
+    bytes = 7;
+    WANT(kc_theta_estimated_size(&none, &bytes) == KC_INVALID_ARGUMENT && kc_compact_estimated_size(&d, &bytes) == KC_INVALID_ARGUMENT && kc_theta_estimated_size(&s, NULL) == KC_INVALID_ARGUMENT && bytes == 7);
+    WANT(kc_union_free(&u) == KC_OK && kc_intersection_free(&i) == KC_OK && kc_union_estimated_size(&u, &bytes) == KC_INVALID_ARGUMENT && kc_intersection_estimated_size(&i, &bytes) == KC_INVALID_ARGUMENT);
+    WANT(bytes == 7 && kc_union_result_with(&u, 0, &d) == KC_INVALID_ARGUMENT && kc_intersection_result_with(&i, 0, &d) == KC_INVALID_ARGUMENT && d.object == NULL);
+    kc_theta_free(&s), kc_theta_free(&few), kc_compact_free(&c), kc_compact_free(&f);
 }
 
 static void texts_in_pieces(void) {
@@ -563,6 +671,58 @@ static void sums_intersections(void) {
     kc_sums_free(&a), kc_sums_free(&b), kc_sums_free(&other), kc_sums_free(&empty), kc_compact_sums_free(&ca), kc_compact_sums_free(&cb);
 }
 
+/* Whether two sketches have one state and the same sums, in any order. Both are freed. */
+static int have_same_sums(kc_compact_sums *a, kc_compact_sums *b) {
+    static uint64_t listed[8192], sums_listed[8192];
+    kc_state s, t;
+    uint64_t count = 0, other = 0, same = 0;
+    WANT(kc_compact_sums_state(a, &s) == KC_OK && kc_compact_sums_state(b, &t) == KC_OK);
+    WANT(kc_compact_sums_entries(a, listed, sums_listed, 8192, &count) == KC_OK && kc_compact_sums_entries(b, hashes, counted, 8192, &other) == KC_OK);
+    for (uint64_t n = 0; n < count; n++) {
+        for (uint64_t m = 0; m < other; m++) same += hashes[m] == listed[n] && counted[m] == sums_listed[n];
+    }
+    WANT(kc_compact_sums_free(a) == KC_OK && kc_compact_sums_free(b) == KC_OK);
+    return memcmp(&s, &t, sizeof s) == 0 && count == other && same == count;
+}
+
+/* As `orders`, of sums. */
+static void sums_orders(void) {
+    kc_sums s = {0}, few = {0}, none = {0};
+    kc_compact_sums c = {0}, d = {0}, e = {0}, f = {0};
+    kc_sums_union u = {0};
+    kc_sums_intersection i = {0};
+    kc_state st;
+    uint32_t hash = 7;
+    uint64_t bytes = 7;
+    WANT(kc_sums_new(&s, 10, SEED) == KC_OK && kc_sums_new(&few, 10, SEED) == KC_OK && kc_sums_union_new(&u, 10, SEED) == KC_OK && kc_sums_intersection_new(&i, SEED) == KC_OK);
+    values(&s, 0, 20000), values(&few, 0, 1500);
+    WANT(kc_sums_compact_with(&s, 2, &c) == KC_INVALID_ARGUMENT && kc_sums_compact_with(&none, 0, &c) == KC_INVALID_ARGUMENT && c.object == NULL);
+    WANT(kc_sums_compact_with(&s, 0, &c) == KC_OK && kc_sums_compact_with(&s, 0, &c) == KC_INVALID_ARGUMENT && !are_ordered(&c));
+    WANT(kc_sums_compact_with(&s, 1, &d) == KC_OK && are_ordered(&d) && kc_sums_compact(&s, &e) == KC_OK && are_ordered(&e) && have_same_sums(&d, &e));
+    WANT(kc_compact_sums_clone(&c, &e) == KC_OK && !are_ordered(&e) && kc_sums_compact(&s, &d) == KC_OK && have_same_sums(&d, &e));
+    WANT(kc_sums_union_add(&u, &few) == KC_OK && kc_sums_union_add_compact(&u, &c) == KC_OK && kc_sums_intersection_add(&i, &few) == KC_OK);
+    WANT(kc_sums_intersection_result_with(&i, 0, &d) == KC_OK && !are_ordered(&d) && kc_compact_sums_free(&d) == KC_OK && kc_sums_intersection_add_compact(&i, &c) == KC_OK);
+    WANT(kc_sums_union_result_with(&u, 2, &d) == KC_INVALID_ARGUMENT && kc_sums_intersection_result_with(&i, 2, &d) == KC_INVALID_ARGUMENT && d.object == NULL);
+    WANT(kc_sums_union_result_with(&u, 0, &d) == KC_OK && !are_ordered(&d) && kc_sums_union_result(&u, &e) == KC_OK && are_ordered(&e) && have_same_sums(&d, &e));
+    WANT(kc_sums_union_result_with(&u, 1, &d) == KC_OK && are_ordered(&d) && kc_sums_union_result(&u, &e) == KC_OK && have_same_sums(&d, &e));
+    WANT(kc_sums_intersection_result_with(&i, 0, &d) == KC_OK && kc_sums_intersection_result(&i, &e) == KC_OK && are_ordered(&e) && have_same_sums(&d, &e));
+    WANT(kc_sums_intersection_result_with(&i, 1, &d) == KC_OK && are_ordered(&d) && kc_sums_intersection_result(&i, &e) == KC_OK && have_same_sums(&d, &e));
+    WANT(kc_sums_compact(&few, &f) == KC_OK && kc_sums_difference_with(&c, &f, SEED, 2, &d) == KC_INVALID_ARGUMENT && d.object == NULL);
+    WANT(kc_sums_difference_with(&c, &f, SEED, 0, &d) == KC_OK && !are_ordered(&d) && kc_sums_difference(&c, &f, SEED, &e) == KC_OK && are_ordered(&e) && have_same_sums(&d, &e));
+    WANT(kc_sums_difference_with(&c, &f, SEED, 1, &d) == KC_OK && are_ordered(&d) && kc_sums_updatable_difference(&s, &few, SEED, &e) == KC_OK && are_ordered(&e) && have_same_sums(&d, &e));
+    WANT(kc_sums_difference_with(&f, &c, SEED, 0, &d) == KC_OK && are_ordered(&d) && kc_sums_updatable_difference(&few, &s, SEED, &e) == KC_OK && have_same_sums(&d, &e));
+    WANT(kc_sums_updatable_difference(&s, &few, SEED + 1, &d) == KC_INVALID_ARGUMENT && kc_sums_updatable_difference(&s, &none, SEED, &d) == KC_INVALID_ARGUMENT && d.object == NULL);
+    WANT(kc_sums_updatable_difference(&s, &s, SEED, &d) == KC_OK && kc_compact_sums_state(&d, &st) == KC_OK && st.retained == 0 && kc_compact_sums_free(&d) == KC_OK);
+    WANT(kc_compact_sums_seed_hash(&c, &hash) == KC_OK && hash == 0x93cc && kc_compact_sums_seed_hash(&d, &hash) == KC_INVALID_ARGUMENT && kc_compact_sums_is_ordered(&d, &hash) == KC_INVALID_ARGUMENT && hash == 0x93cc);
+    WANT(kc_sums_estimated_size(&s, &bytes) == KC_OK && bytes == 24 << 11 && kc_sums_union_estimated_size(&u, &bytes) == KC_OK && bytes == 24 << 11);
+    WANT(kc_compact_sums_state(&c, &st) == KC_OK && kc_compact_sums_estimated_size(&c, &bytes) == KC_OK && bytes == 16 * st.retained);
+    WANT(kc_sums_intersection_result(&i, &d) == KC_OK && kc_compact_sums_state(&d, &st) == KC_OK && kc_sums_intersection_estimated_size(&i, &bytes) == KC_OK && bytes == 16 * st.retained);
+    bytes = 7;
+    WANT(kc_sums_estimated_size(&none, &bytes) == KC_INVALID_ARGUMENT && kc_sums_union_free(&u) == KC_OK && kc_sums_union_estimated_size(&u, &bytes) == KC_INVALID_ARGUMENT && bytes == 7);
+    WANT(kc_sums_intersection_free(&i) == KC_OK && kc_sums_intersection_estimated_size(&i, &bytes) == KC_INVALID_ARGUMENT && kc_compact_sums_free(&d) == KC_OK && kc_compact_sums_estimated_size(&d, &bytes) == KC_INVALID_ARGUMENT && bytes == 7);
+    kc_sums_free(&s), kc_sums_free(&few), kc_compact_sums_free(&c), kc_compact_sums_free(&f);
+}
+
 /* A total, a theta, the number of decimals, and the estimate of the total, computed in Python. */
 static const struct { kc_wide total; uint64_t theta; uint32_t places; const char *text; } totals[] = {
     {{0, 0}, KC_MAX_THETA, 2, "0.00"},
@@ -618,6 +778,9 @@ static void estimates(void) {
     WANT(kc_count_bounds(4096, 377528331862415411, 2, &lower, &upper) == KC_OK && lower.low < 100069 && upper.low > 100069 && upper.low < 104000);
     WANT(kc_count_bounds(10, KC_MAX_THETA, 0, &lower, &upper) == KC_INVALID_ARGUMENT && kc_count_bounds(10, KC_MAX_THETA, 4, &lower, &upper) == KC_INVALID_ARGUMENT);
     WANT(kc_count_bounds(10, 0, 1, &lower, &upper) == KC_INVALID_ARGUMENT && kc_count_bounds(10, 1, 1, NULL, &upper) == KC_INVALID_ARGUMENT);
+    /* two estimates that a product in place of the quotients would round otherwise */
+    WANT(kc_estimate(&(kc_state){4343, UINT64_C(8039073764755694319), 0}) == 4982.8009952683415);
+    WANT(kc_estimate(&(kc_state){3815, UINT64_C(8989160369660704887), 0}) == 3914.399440392797);
     /* a number is hashed as its eight bytes; MurmurHash3 of no bytes under seed 0 is 0 */
     WANT(kc_hash_bytes(0, NULL, 0, &hash) == KC_OK && hash == 0);
     uint64_t again = 1;
@@ -684,6 +847,68 @@ static void rounded(void) {
     WANT(kc_total_rounded(&out, 8, &out) == KC_INVALID_ARGUMENT && kc_total_rounded(&large, 6, &out) == KC_OK);
 }
 
+/* The image of three keys with a byte changed or with other bytes behind it, and what its preamble then says. The image has 40 bytes, and that
+ * of sums 64. Byte 0 has the preamble longs, 1 the version, 2 the family, 3 the type of sums, 5 the flags, and 6 the seed hash. */
+static const struct { int place, byte; size_t count; uint32_t flaw, found; uint64_t length; uint32_t sums_flaw, sums_found; uint64_t sums_length; } findings[] = {
+    {-1, 0, 0, KC_FLAW_DAMAGED, 0, 40, KC_FLAW_DAMAGED, 0, 64},
+    {-1, 0, 1, KC_FLAW_LONGER, 0, 40, KC_FLAW_LONGER, 0, 64},
+    {-1, 0, 7, KC_FLAW_SHORT, 0, 0, KC_FLAW_SHORT, 0, 0},
+    {-1, 0, 8, KC_FLAW_CUT, 0, 0, KC_FLAW_CUT, 0, 0},
+    {-1, 0, 39, KC_FLAW_CUT, 0, 40, KC_FLAW_CUT, 0, 64},
+    {2, 9, 0, KC_FLAW_FAMILY, 9, 0, KC_FLAW_DAMAGED, 0, 64},
+    {2, 3, 0, KC_FLAW_DAMAGED, 0, 40, KC_FLAW_FAMILY, 3, 0},
+    {2, 7, 0, KC_FLAW_FAMILY, 7, 0, KC_FLAW_FAMILY, 7, 0},
+    {1, 4, 0, KC_FLAW_VERSION, 4, 0, KC_FLAW_VERSION, 4, 0},
+    {1, 2, 0, KC_FLAW_DAMAGED, 0, 40, KC_FLAW_VERSION, 2, 0},
+    {5, 0x1b, 0, KC_FLAW_BIG_ENDIAN, 0, 40, KC_FLAW_BIG_ENDIAN, 0, 64},
+    {6, 0, 0, KC_FLAW_SEED, 0, 40, KC_FLAW_SEED, 0, 64},
+    {0, 0, 0, KC_FLAW_DAMAGED, 0, 0, KC_FLAW_DAMAGED, 0, 0},
+    {0, 4, 0, KC_FLAW_DAMAGED, 0, 0, KC_FLAW_DAMAGED, 0, 0},
+    {3, 2, 0, KC_FLAW_DAMAGED, 0, 40, KC_FLAW_DAMAGED, 0, 0},
+};
+
+static int finds(kc_finding it, uint32_t flaw, uint32_t found, uint64_t length) {
+    return it.flaw == flaw && it.found == found && it.length == length;
+}
+
+/* Why bytes are no image. */
+static void flaws(void) {
+    unsigned char image[48], sums_image[72];
+    uint64_t length, sums_length;
+    kc_theta s = {0};
+    kc_sums t = {0};
+    kc_finding it = {7, 7, 7};
+    WANT(kc_theta_new(&s, 12, SEED) == KC_OK && kc_sums_new(&t, 12, SEED) == KC_OK);
+    for (uint64_t n = 1; n <= 3; n++) WANT(kc_theta_update_u64(&s, n) == KC_OK && kc_sums_add_u64(&t, n, n) == KC_OK);
+    for (size_t n = 0; n < sizeof findings / sizeof *findings; n++) {
+        memset(image, 0, sizeof image), memset(sums_image, 0, sizeof sums_image);
+        WANT(kc_theta_image(&s, image, 47, &length) == KC_OK && length == 40 && kc_sums_image(&t, sums_image, 71, &sums_length) == KC_OK && sums_length == 64);
+        if (findings[n].place >= 0) image[findings[n].place] = sums_image[findings[n].place] = (unsigned char)findings[n].byte;
+        size_t count = findings[n].count;
+        WANT(kc_image_flaw(image, count == 0 ? 40 : count == 1 ? 41 : count, SEED, &it) == KC_OK);
+        WANT(finds(it, findings[n].flaw, findings[n].found, findings[n].length));
+        WANT(kc_sums_image_flaw(sums_image, count == 0 ? 64 : count == 1 ? 65 : count == 39 ? 63 : count, SEED, &it) == KC_OK);
+        WANT(finds(it, findings[n].sums_flaw, findings[n].sums_found, findings[n].sums_length));
+    }
+    WANT(kc_image_flaw("0103030000Cc93ff", 16, SEED, &it) == KC_OK && it.flaw == KC_FLAW_HEXADECIMAL && it.found == 0);
+    WANT(kc_sums_image_flaw("0103030000Cc93ff", 16, SEED, &it) == KC_OK && it.flaw == KC_FLAW_HEXADECIMAL && it.found == 0);
+    /* an empty sketch has no seed that is checked, and its image eight bytes */
+    WANT(kc_theta_reset(&s) == KC_OK && kc_theta_image(&s, image, 47, &length) == KC_OK && kc_image_flaw(image, 9, 123, &it) == KC_OK);
+    WANT(finds(it, KC_FLAW_LONGER, 0, 8));
+    /* refused: the hash of the seed is 0, a null pointer */
+    it = (kc_finding){7, 7, 7};
+    WANT(kc_image_flaw(image, 8, 50541, &it) == KC_INVALID_ARGUMENT && kc_sums_image_flaw(image, 8, 50541, &it) == KC_INVALID_ARGUMENT);
+    WANT(kc_image_flaw(NULL, 8, SEED, &it) == KC_INVALID_ARGUMENT && kc_image_flaw(image, 8, SEED, NULL) == KC_INVALID_ARGUMENT);
+    WANT(kc_sums_image_flaw(NULL, 8, SEED, &it) == KC_INVALID_ARGUMENT && kc_sums_image_flaw(image, 8, SEED, NULL) == KC_INVALID_ARGUMENT);
+    WANT(finds(it, 7, 7, 7));
+    WANT(kc_image_flaw(NULL, 0, SEED, &it) == KC_OK && finds(it, KC_FLAW_SHORT, 0, 0));
+    for (uint32_t flaw = KC_FLAW_HEXADECIMAL; flaw <= KC_FLAW_DAMAGED; flaw++) {
+        WANT(strlen(kc_flaw_text(flaw)) > 10 && strcmp(kc_flaw_text(flaw), kc_flaw_text(0)) != 0);
+    }
+    WANT(strcmp(kc_flaw_text(0), kc_flaw_text(KC_FLAW_DAMAGED + 1)) == 0);
+    kc_theta_free(&s), kc_sums_free(&t);
+}
+
 /* The texts of statuses, and the version. */
 static void library(void) {
     for (kc_status status = KC_OK; status <= KC_TOO_SMALL; status++) {
@@ -701,16 +926,20 @@ int main(void) {
     operators();
     batches();
     union_settings();
+    one_hash();
+    orders();
     texts_in_pieces();
     sums();
     many_values();
     compact_sums();
     sums_unions();
     sums_intersections();
+    sums_orders();
     estimates();
     total_texts();
     numbers_as_text();
     rounded();
+    flaws();
     library();
     printf("test: %d checks, %d faults\n", checks, faults);
     return faults != 0;

@@ -174,7 +174,27 @@ static void test_refusals() {
     const Image image = of_numbers(0, 3).image();
     HOLDS(refusal([&] { Compact::read(Bytes(image.data(), image.size() - 1)); }) == KC_INVALID_DATA);
     HOLDS(refusal([&] { CompactSums::read(image); }) == KC_INVALID_DATA && refusal([&] { Compact::read(image, 7); }) == KC_INVALID_DATA);
+    /* Bytes behind an image are refused by each reader, and change nothing. */
+    Image longer = image, longer_sums = Sums().image();
+    longer.push_back(0);
+    longer_sums.insert(longer_sums.end(), longer_sums.begin(), longer_sums.end());
+    Union unites;
+    Batch batch;
+    Intersection meets;
+    SumsUnion sums_unites;
+    SumsIntersection sums_meets;
+    HOLDS(refusal([&] { Compact::read(longer); }) == KC_INVALID_DATA && refusal([&] { CompactSums::read(longer_sums); }) == KC_INVALID_DATA);
+    HOLDS(refusal([&] { unites.add_image(longer); }) == KC_INVALID_DATA && refusal([&] { batch.add_image(longer); }) == KC_INVALID_DATA);
+    HOLDS(refusal([&] { meets.add_image(longer); }) == KC_INVALID_DATA && refusal([&] { sums_unites.add_image(longer_sums); }) == KC_INVALID_DATA);
+    HOLDS(refusal([&] { sums_meets.add_image(longer_sums); }) == KC_INVALID_DATA && refusal([&] { meets.result(); }) == KC_INVALID_ARGUMENT);
+    unites.add(batch);
+    HOLDS(unites.result().state().is_empty() && sums_unites.result().state().is_empty());
+    HOLDS(refusal([&] { Compact::read(""); }) == KC_INVALID_DATA && Compact::read(Theta().image()).state().is_empty());
     Union other(12, 7);
+    Theta of_seven(12, 7);
+    of_seven.update("ann");
+    other.add_image(of_seven.image());
+    HOLDS(other.result().estimate() == 1.0);
     HOLDS(refusal([&] { other.add(of_numbers(0, 3)); }) == KC_INVALID_ARGUMENT && refusal([&] { other.add_image(""); }) == KC_INVALID_DATA);
     HOLDS(refusal([&] { Theta().state().bounds(4); }) == KC_INVALID_ARGUMENT && refusal([&] { Theta().state().text(20); }) == KC_INVALID_ARGUMENT);
     Theta strings;

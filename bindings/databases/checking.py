@@ -43,9 +43,9 @@ class Checks:
         print(f"{self.name}: {self.passed} checks passed")
 
 
-def run(words, **more):
+def run(words, text=True, **more):
     """The standard output of a command, which has to succeed."""
-    done = subprocess.run(words, capture_output=True, text=True, check=False, **more)
+    done = subprocess.run(words, capture_output=True, text=text, check=False, **more)
     if done.returncode != 0:
         sys.exit(f"{' '.join(words)}: status {done.returncode}\n{done.stdout[-2000:]}{done.stderr[-2000:]}")
     return done.stdout
@@ -73,11 +73,12 @@ def build_by_pkg_config(folder, place, *words):
 
 
 def image_of_lines(lines, lg_k=12):
-    """The image that the program distinct writes for these lines, in hexadecimal."""
+    """The image that the program distinct writes for these lines, texts or bytes, in hexadecimal."""
     program = os.environ.get("DISTINCT_PROGRAM") or os.path.join(TOP, "crates", "distinct", "out", "distinct")
     if not os.path.exists(program):
         sys.exit(f"{program}: is not there; build it by ./install, or name a program in DISTINCT_PROGRAM")
-    return run([program, "sketch", "--hex", "--lg-k", str(lg_k)], input="".join(f"{line}\n" for line in lines)).strip()
+    lines = [line.encode() if isinstance(line, str) else line for line in lines]
+    return run([program, "sketch", "--hex", "--lg-k", str(lg_k)], text=False, input=b"".join(line + b"\n" for line in lines)).decode().strip()
 
 
 def example(database):
@@ -88,20 +89,9 @@ def example(database):
     return sql, re.findall("`(.*?)`", said)
 
 
-def length_of(kind, image):
-    """The length of the image that bytes begin, if they are read at all. The kind is theta, or u64, a tuple sketch of sums."""
-    entry, has_flags = (8, image[1] == 3) if kind == "theta" else (16, True)
-    longs, count = image[0], int.from_bytes(image[8:12], "little")
-    if has_flags and image[5] & read_images.EMPTY:
-        return 8
-    if longs == 1 and (has_flags or image[1] == 2):
-        return 8 + entry if has_flags else 8
-    return (8 * longs if has_flags or image[1] == 2 else 24) + entry * count
-
-
 def is_read(image, kind="theta"):
     """Whether the second reader reads bytes as one sketch of a kind, with nothing behind it."""
-    return read_images.sketch_line(kind, image) != read_images.REFUSED and length_of(kind, image) == len(image)
+    return read_images.sketch_line(kind, image) != read_images.REFUSED and read_images.length_of(kind, image) == len(image)
 
 
 def state_read(image):

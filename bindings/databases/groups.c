@@ -123,78 +123,45 @@ kc_status sums_holds(sums_group *group, kc_compact_sums *sketch, int *holds) {
 
 /* ---- Images ---- */
 
-/* Families of sketches, and the bytes of an entry: a hash, and in a tuple sketch its sum. */
-enum { THETA = 3, TUPLE = 9 };
-static uint64_t entry_size(int family) { return family == TUPLE ? 16 : 8; }
-
-static uint64_t number_at(const unsigned char *image, size_t place, size_t bytes) {
-    uint64_t n = 0;
-    for (size_t i = bytes; i > 0; i--) n = n << 8 | image[place + i - 1];
-    return n;
+/* What a flaw means, and what to do. */
+static const char *flaw_of(const kc_finding *it, int is_of_sums) {
+    switch (it->flaw) {
+    case KC_FLAW_HEXADECIMAL: return "is a text of hexadecimal digits: pass the bytes that they stand for";
+    case KC_FLAW_SHORT: return "is too short for a sketch: pass a whole image";
+    case KC_FLAW_FAMILY:
+        if (is_of_sums && it->found == 3) return "is that of a theta sketch: pass one of sums";
+        if (!is_of_sums && it->found == 9) return "is that of a tuple sketch: pass one of a theta sketch";
+        return "is that of another kind of sketch: pass a compact one";
+    case KC_FLAW_VERSION: return it->found == 4 ? "is compressed: write it uncompressed" : "is of a version that is not read: write it in version 3";
+    case KC_FLAW_BIG_ENDIAN: return "is in big-endian order: write it in little-endian order";
+    case KC_FLAW_SEED: return "is under another seed than 9001: make it under that one";
+    case KC_FLAW_CUT: return "is cut short: copy or make it again";
+    case KC_FLAW_LONGER: return "is longer than one sketch: pass one image alone";
+    default: return "is damaged (its preamble, sketch type, theta or hashes are not valid): copy or make it again";
+    }
 }
 
-/* The versions that are read: 1 to 3 of theta sketches, 1 and 3 of tuple sketches. Those of version 1 and 2 of theta sketches have no flags. */
-static int is_of_version(const unsigned char *image, int family) { return image[1] == 1 || image[1] == 3 || (image[1] == 2 && family == THETA); }
-static int has_flags(const unsigned char *image, int family) { return image[1] == 3 || family == TUPLE; }
-static int is_flagged_empty(const unsigned char *image, int family) { return has_flags(image, family) && (image[5] & 4) != 0; }
-
-/* The length of the image that the bytes begin, by its preamble; 0 if they are too few to say, or it isn't known. There are eight. */
-static uint64_t image_length(const unsigned char *image, size_t count, int family) {
-    if (image[0] < 1 || image[0] > 3 || !is_of_version(image, family)) return 0;
-    if (is_flagged_empty(image, family)) return 8;
-    uint64_t preamble = image[1] == 1 && family == THETA ? 24 : 8 * image[0];
-    if (count < preamble) return 0;
-    if (preamble == 8) return has_flags(image, family) ? 8 + entry_size(family) : 8;
-    return preamble + entry_size(family) * number_at(image, 8, 4);
-}
-
-/* Whether another seed hash than that of the default seed refuses the image. There are eight bytes. */
-static int is_of_another_seed(const unsigned char *image, int family) {
-    static const unsigned char default_seed_hash[] = {0xcc, 0x93};
-    int is_unchecked = has_flags(image, family) ? is_flagged_empty(image, family) : image[1] == 1 || image[0] == 1;
-    return !is_unchecked && memcmp(image + 6, default_seed_hash, 2) != 0;
-}
-
-#define DAMAGED "is damaged (its preamble, sketch type, theta or hashes are not valid): copy or make it again"
-
-/* Why bytes that are not read are no image: the first reason that applies, and what to do. */
-static const char *flaw_of(const unsigned char *image, size_t count, int family) {
-    if (count < 8) return "is too short for a sketch: pass a whole image";
-    if (image[2] == THETA && family == TUPLE) return "is that of a theta sketch: pass one of sums";
-    if (image[2] == TUPLE && family == THETA) return "is that of a tuple sketch: pass one of a theta sketch";
-    if (image[2] != family) return "is that of another kind of sketch: pass a compact one";
-    if (image[1] == 4) return "is compressed: write it uncompressed";
-    if (!is_of_version(image, family)) return "is of a version that is not read: write it in version 3";
-    if (has_flags(image, family) && (image[5] & 1) != 0) return "is in big-endian order: write it in little-endian order";
-    if (is_of_another_seed(image, family)) return "is under another seed than 9001: make it under that one";
-    if (image[0] < 1 || image[0] > 3) return DAMAGED;
-    if (image_length(image, count, family) == 0 || count < image_length(image, count, family)) return "is cut short: copy or make it again";
-    return DAMAGED;
-}
-
-/* The status of bytes that were read with this one: of a sketch and more, KC_INVALID_DATA. */
-static kc_status alone(kc_status status, const void *image, size_t count, int family, const char **flaw) {
-    if (status == KC_INVALID_DATA) *flaw = flaw_of(image, count, family);
-    if (status != KC_OK || image_length(image, count, family) == count) return status;
-    *flaw = "is longer than one sketch: pass one image alone";
-    return KC_INVALID_DATA;
+/* The status of bytes that were read with this one, of which the library says this: of a sketch and more, KC_INVALID_DATA. */
+static kc_status alone(kc_status status, const kc_finding *it, size_t count, int is_of_sums, const char **flaw) {
+    if (status == KC_OK && it->length != count) status = KC_INVALID_DATA;
+    if (status == KC_INVALID_DATA) *flaw = flaw_of(it, is_of_sums);
+    return status;
 }
 
 kc_status read_image(const void *image, size_t count, kc_compact *out, const char **flaw) {
-    kc_status status = alone(kc_compact_read(out, image, count, KC_DEFAULT_SEED), image, count, THETA, flaw);
+    kc_finding it = {0};
+    kc_status status = kc_image_flaw(image, count, KC_DEFAULT_SEED, &it);
+    if (status == KC_OK) status = alone(kc_compact_read(out, image, count, KC_DEFAULT_SEED), &it, count, 0, flaw);
     if (status != KC_OK) kc_compact_free(out);
     return status;
 }
 
 kc_status read_sums(const void *image, size_t count, kc_compact_sums *out, const char **flaw) {
-    kc_status status = alone(kc_compact_sums_read(out, image, count, KC_DEFAULT_SEED), image, count, TUPLE, flaw);
+    kc_finding it = {0};
+    kc_status status = kc_sums_image_flaw(image, count, KC_DEFAULT_SEED, &it);
+    if (status == KC_OK) status = alone(kc_compact_sums_read(out, image, count, KC_DEFAULT_SEED), &it, count, 1, flaw);
     if (status != KC_OK) kc_compact_sums_free(out);
     return status;
-}
-
-int is_ordered(const void *image, size_t count) {
-    const unsigned char *bytes = image;
-    return count >= 8 && bytes[1] == 3 && (bytes[5] & 16) != 0;
 }
 
 /* ---- Texts ---- */

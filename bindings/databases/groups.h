@@ -36,6 +36,8 @@ kc_status union_add_sketch(union_group *group, kc_compact *sketch);
 /* Makes the union as an ordered compact sketch, trimmed to its nominal entries; without keys and sketches the empty one. The group may go
  * on afterwards. Refused with KC_OUT_OF_MEMORY. */
 kc_status union_result(union_group *group, kc_compact *out);
+/* The same, faster: nothing may be added to the group afterwards, but this may be called again. After KC_OUT_OF_MEMORY it is only freed. */
+kc_status union_end(union_group *group, kc_compact *out);
 /* The pieces of a union, from 0 to PIECES - 1, from which another of the same lg_k goes on: whether it has one, that piece as a sketch,
  * and the merge of one. `largest` is not in them. */
 int union_has_piece(const union_group *group, int place);
@@ -79,6 +81,7 @@ kc_status sums_add_bytes(sums_group *group, const void *bytes, size_t count, uin
 kc_status sums_add_number(sums_group *group, uint64_t number, uint64_t value);
 kc_status sums_add_sketch(sums_group *group, kc_compact_sums *sketch);
 kc_status sums_result(sums_group *group, kc_compact_sums *out);
+kc_status sums_end(sums_group *group, kc_compact_sums *out);
 int sums_has_piece(const sums_group *group, int place);
 kc_status sums_piece(sums_group *group, int place, kc_compact_sums *out);
 kc_status sums_add_piece(sums_group *group, int place, kc_compact_sums *sketch);
@@ -103,8 +106,6 @@ void sums_meet_free(sums_meet_group *group);
 kc_status read_image(const void *image, size_t count, kc_compact *out, const char **flaw);
 kc_status read_sums(const void *image, size_t count, kc_compact_sums *out, const char **flaw);
 
-/* Whether the bytes of an image that was read say that the hashes of the sketch ascend. */
-int is_ordered(const void *image, size_t count);
 /* Makes the hashes of a sketch ascend. Refused with KC_OUT_OF_MEMORY. */
 kc_status meet_order(kc_compact *sketch);
 kc_status sums_meet_order(kc_compact_sums *sketch);

@@ -1,5 +1,6 @@
 /* See calls.h. */
 #include "calls.h"
+#include <math.h>
 #include "access/htup_details.h"
 #include "catalog/pg_aggregate.h"
 #include "catalog/pg_type.h"
@@ -183,6 +184,19 @@ static const char *date_text(DateADT date) {
     return text;
 }
 
+/* Equal numbers have one text, whatever their scale: 1.00 has that of 1. */
+static const char *numeric_text(Datum number) {
+    return DatumGetCString(DirectFunctionCall1(numeric_out, DirectFunctionCall1(numeric_trim_scale, number)));
+}
+
+uint64_t float_bits(double x) {
+    uint64_t bits;
+    if (isnan(x)) return UINT64_C(0x7ff8000000000000);
+    if (x == 0) x = 0;
+    memcpy(&bits, &x, sizeof bits);
+    return bits;
+}
+
 const char *text_key(FunctionCallInfo fcinfo, const char *type) {
     Datum key = PG_GETARG_DATUM(1);
     Oid of = getBaseType(get_fn_expr_argtype(fcinfo->flinfo, 1));
@@ -191,6 +205,7 @@ const char *text_key(FunctionCallInfo fcinfo, const char *type) {
     case DATEOID: return date_text(DatumGetDateADT(key));
     case TIMESTAMPOID: return time_text(DatumGetTimestamp(key), false, type);
     case TIMESTAMPTZOID: return time_text(DatumGetTimestampTz(key), true, type);
+    case NUMERICOID: return numeric_text(key);
     case UUIDOID: return DatumGetCString(DirectFunctionCall1(uuid_out, key));
     case INETOID:
     case CIDROID: return TextDatumGetCString(DirectFunctionCall1(network_show, key));

@@ -40,8 +40,21 @@ HIDDEN char *bytes_of_base64(const char *text, size_t *count, const char *type);
  * argument, or of a function, in which it is the second. */
 HIDDEN void check_keys(FunctionCallInfo fcinfo, const char *type);
 
-/* A key at the place 1 of a type that is hashed by its text, with a final 0 byte: that of x::text with DateStyle ISO and TimeZone UTC. */
+/* A key at the place 1 of a type that is hashed by its text, with a final 0 byte: that of x::text with DateStyle ISO and TimeZone UTC, and of
+ * a numeric without zeros at the end of its decimals. */
 HIDDEN const char *text_key(FunctionCallInfo fcinfo, const char *type);
+
+/* Calls FOR(name, bits) for each type whose keys are hashed by 64 bits, the lowest byte first: its name in functions of SQL, and these bits
+ * of the argument at the place 1. An integer has its sign in all of them, an oid none. */
+#define FOR_TYPES_OF_NUMBERS(FOR) \
+    FOR(int8, (uint64_t)PG_GETARG_INT64(1)) \
+    FOR(int4, (uint64_t)PG_GETARG_INT32(1)) \
+    FOR(int2, (uint64_t)PG_GETARG_INT16(1)) \
+    FOR(oid, PG_GETARG_OID(1)) \
+    FOR(float8, float_bits(PG_GETARG_FLOAT8(1)))
+
+/* The bits of a float, as the DataSketches libraries hash it: those of 0.0 for -0.0, and for each NaN those of one. */
+HIDDEN uint64_t float_bits(double x);
 
 /* The context of the aggregate that calls. */
 HIDDEN MemoryContext aggregate_context(FunctionCallInfo fcinfo, const char *type);

@@ -329,6 +329,173 @@ CREATE AGGREGATE tuple_sketch_build(anyenum, bigint, integer) (
 CREATE FUNCTION tuple_sketch_add(tuple_sketch, anyenum, bigint, integer) RETURNS tuple_sketch
     AS 'MODULE_PATHNAME', 'tuple_sketch_insert_text' LANGUAGE C IMMUTABLE PARALLEL SAFE COST 1000;
 
+-- ---- Keys of numbers ----
+-- An integer and an oid are hashed by 64 bits, as a bigint is, and a float by the 64 bits of a double; a numeric by its text without zeros at
+-- the end of its decimals. Each integer has a function, since PostgreSQL would cast it to a float. A real is cast to double precision.
+
+CREATE FUNCTION theta_sketch_add_int2(internal, smallint) RETURNS internal
+    AS 'MODULE_PATHNAME', 'theta_sketch_add_int2' LANGUAGE C IMMUTABLE PARALLEL SAFE COST 2;
+CREATE FUNCTION theta_sketch_add_int2(internal, smallint, integer) RETURNS internal
+    AS 'MODULE_PATHNAME', 'theta_sketch_add_int2' LANGUAGE C IMMUTABLE PARALLEL SAFE COST 2;
+CREATE FUNCTION tuple_sketch_add_int2(internal, smallint, bigint) RETURNS internal
+    AS 'MODULE_PATHNAME', 'tuple_sketch_add_int2' LANGUAGE C IMMUTABLE PARALLEL SAFE COST 2;
+CREATE FUNCTION tuple_sketch_add_int2(internal, smallint, bigint, integer) RETURNS internal
+    AS 'MODULE_PATHNAME', 'tuple_sketch_add_int2' LANGUAGE C IMMUTABLE PARALLEL SAFE COST 2;
+CREATE AGGREGATE theta_sketch_build(smallint) (
+    SFUNC = theta_sketch_add_int2, STYPE = internal, FINALFUNC = theta_sketch_final, COMBINEFUNC = theta_sketch_combine,
+    SERIALFUNC = theta_sketch_serialize, DESERIALFUNC = theta_sketch_deserialize, PARALLEL = SAFE);
+CREATE AGGREGATE theta_sketch_distinct(smallint) (
+    SFUNC = theta_sketch_add_int2, STYPE = internal, FINALFUNC = theta_sketch_final_estimate, COMBINEFUNC = theta_sketch_combine,
+    SERIALFUNC = theta_sketch_serialize, DESERIALFUNC = theta_sketch_deserialize, PARALLEL = SAFE);
+CREATE FUNCTION theta_sketch_add(theta_sketch, smallint) RETURNS theta_sketch
+    AS 'MODULE_PATHNAME', 'theta_sketch_insert_int2' LANGUAGE C IMMUTABLE PARALLEL SAFE COST 1000;
+CREATE AGGREGATE theta_sketch_build(smallint, integer) (
+    SFUNC = theta_sketch_add_int2, STYPE = internal, FINALFUNC = theta_sketch_final, COMBINEFUNC = theta_sketch_combine,
+    SERIALFUNC = theta_sketch_serialize, DESERIALFUNC = theta_sketch_deserialize, PARALLEL = SAFE);
+CREATE AGGREGATE theta_sketch_distinct(smallint, integer) (
+    SFUNC = theta_sketch_add_int2, STYPE = internal, FINALFUNC = theta_sketch_final_estimate, COMBINEFUNC = theta_sketch_combine,
+    SERIALFUNC = theta_sketch_serialize, DESERIALFUNC = theta_sketch_deserialize, PARALLEL = SAFE);
+CREATE FUNCTION theta_sketch_add(theta_sketch, smallint, integer) RETURNS theta_sketch
+    AS 'MODULE_PATHNAME', 'theta_sketch_insert_int2' LANGUAGE C IMMUTABLE PARALLEL SAFE COST 1000;
+CREATE AGGREGATE tuple_sketch_build(smallint, bigint) (
+    SFUNC = tuple_sketch_add_int2, STYPE = internal, FINALFUNC = tuple_sketch_final, COMBINEFUNC = tuple_sketch_combine,
+    SERIALFUNC = tuple_sketch_serialize, DESERIALFUNC = tuple_sketch_deserialize, PARALLEL = SAFE);
+CREATE FUNCTION tuple_sketch_add(tuple_sketch, smallint, bigint) RETURNS tuple_sketch
+    AS 'MODULE_PATHNAME', 'tuple_sketch_insert_int2' LANGUAGE C IMMUTABLE PARALLEL SAFE COST 1000;
+CREATE AGGREGATE tuple_sketch_build(smallint, bigint, integer) (
+    SFUNC = tuple_sketch_add_int2, STYPE = internal, FINALFUNC = tuple_sketch_final, COMBINEFUNC = tuple_sketch_combine,
+    SERIALFUNC = tuple_sketch_serialize, DESERIALFUNC = tuple_sketch_deserialize, PARALLEL = SAFE);
+CREATE FUNCTION tuple_sketch_add(tuple_sketch, smallint, bigint, integer) RETURNS tuple_sketch
+    AS 'MODULE_PATHNAME', 'tuple_sketch_insert_int2' LANGUAGE C IMMUTABLE PARALLEL SAFE COST 1000;
+CREATE FUNCTION theta_sketch_add_int4(internal, integer) RETURNS internal
+    AS 'MODULE_PATHNAME', 'theta_sketch_add_int4' LANGUAGE C IMMUTABLE PARALLEL SAFE COST 2;
+CREATE FUNCTION theta_sketch_add_int4(internal, integer, integer) RETURNS internal
+    AS 'MODULE_PATHNAME', 'theta_sketch_add_int4' LANGUAGE C IMMUTABLE PARALLEL SAFE COST 2;
+CREATE FUNCTION tuple_sketch_add_int4(internal, integer, bigint) RETURNS internal
+    AS 'MODULE_PATHNAME', 'tuple_sketch_add_int4' LANGUAGE C IMMUTABLE PARALLEL SAFE COST 2;
+CREATE FUNCTION tuple_sketch_add_int4(internal, integer, bigint, integer) RETURNS internal
+    AS 'MODULE_PATHNAME', 'tuple_sketch_add_int4' LANGUAGE C IMMUTABLE PARALLEL SAFE COST 2;
+CREATE AGGREGATE theta_sketch_build(integer) (
+    SFUNC = theta_sketch_add_int4, STYPE = internal, FINALFUNC = theta_sketch_final, COMBINEFUNC = theta_sketch_combine,
+    SERIALFUNC = theta_sketch_serialize, DESERIALFUNC = theta_sketch_deserialize, PARALLEL = SAFE);
+CREATE AGGREGATE theta_sketch_distinct(integer) (
+    SFUNC = theta_sketch_add_int4, STYPE = internal, FINALFUNC = theta_sketch_final_estimate, COMBINEFUNC = theta_sketch_combine,
+    SERIALFUNC = theta_sketch_serialize, DESERIALFUNC = theta_sketch_deserialize, PARALLEL = SAFE);
+CREATE FUNCTION theta_sketch_add(theta_sketch, integer) RETURNS theta_sketch
+    AS 'MODULE_PATHNAME', 'theta_sketch_insert_int4' LANGUAGE C IMMUTABLE PARALLEL SAFE COST 1000;
+CREATE AGGREGATE theta_sketch_build(integer, integer) (
+    SFUNC = theta_sketch_add_int4, STYPE = internal, FINALFUNC = theta_sketch_final, COMBINEFUNC = theta_sketch_combine,
+    SERIALFUNC = theta_sketch_serialize, DESERIALFUNC = theta_sketch_deserialize, PARALLEL = SAFE);
+CREATE AGGREGATE theta_sketch_distinct(integer, integer) (
+    SFUNC = theta_sketch_add_int4, STYPE = internal, FINALFUNC = theta_sketch_final_estimate, COMBINEFUNC = theta_sketch_combine,
+    SERIALFUNC = theta_sketch_serialize, DESERIALFUNC = theta_sketch_deserialize, PARALLEL = SAFE);
+CREATE FUNCTION theta_sketch_add(theta_sketch, integer, integer) RETURNS theta_sketch
+    AS 'MODULE_PATHNAME', 'theta_sketch_insert_int4' LANGUAGE C IMMUTABLE PARALLEL SAFE COST 1000;
+CREATE AGGREGATE tuple_sketch_build(integer, bigint) (
+    SFUNC = tuple_sketch_add_int4, STYPE = internal, FINALFUNC = tuple_sketch_final, COMBINEFUNC = tuple_sketch_combine,
+    SERIALFUNC = tuple_sketch_serialize, DESERIALFUNC = tuple_sketch_deserialize, PARALLEL = SAFE);
+CREATE FUNCTION tuple_sketch_add(tuple_sketch, integer, bigint) RETURNS tuple_sketch
+    AS 'MODULE_PATHNAME', 'tuple_sketch_insert_int4' LANGUAGE C IMMUTABLE PARALLEL SAFE COST 1000;
+CREATE AGGREGATE tuple_sketch_build(integer, bigint, integer) (
+    SFUNC = tuple_sketch_add_int4, STYPE = internal, FINALFUNC = tuple_sketch_final, COMBINEFUNC = tuple_sketch_combine,
+    SERIALFUNC = tuple_sketch_serialize, DESERIALFUNC = tuple_sketch_deserialize, PARALLEL = SAFE);
+CREATE FUNCTION tuple_sketch_add(tuple_sketch, integer, bigint, integer) RETURNS tuple_sketch
+    AS 'MODULE_PATHNAME', 'tuple_sketch_insert_int4' LANGUAGE C IMMUTABLE PARALLEL SAFE COST 1000;
+CREATE FUNCTION theta_sketch_add_oid(internal, oid) RETURNS internal
+    AS 'MODULE_PATHNAME', 'theta_sketch_add_oid' LANGUAGE C IMMUTABLE PARALLEL SAFE COST 2;
+CREATE FUNCTION theta_sketch_add_oid(internal, oid, integer) RETURNS internal
+    AS 'MODULE_PATHNAME', 'theta_sketch_add_oid' LANGUAGE C IMMUTABLE PARALLEL SAFE COST 2;
+CREATE FUNCTION tuple_sketch_add_oid(internal, oid, bigint) RETURNS internal
+    AS 'MODULE_PATHNAME', 'tuple_sketch_add_oid' LANGUAGE C IMMUTABLE PARALLEL SAFE COST 2;
+CREATE FUNCTION tuple_sketch_add_oid(internal, oid, bigint, integer) RETURNS internal
+    AS 'MODULE_PATHNAME', 'tuple_sketch_add_oid' LANGUAGE C IMMUTABLE PARALLEL SAFE COST 2;
+CREATE AGGREGATE theta_sketch_build(oid) (
+    SFUNC = theta_sketch_add_oid, STYPE = internal, FINALFUNC = theta_sketch_final, COMBINEFUNC = theta_sketch_combine,
+    SERIALFUNC = theta_sketch_serialize, DESERIALFUNC = theta_sketch_deserialize, PARALLEL = SAFE);
+CREATE AGGREGATE theta_sketch_distinct(oid) (
+    SFUNC = theta_sketch_add_oid, STYPE = internal, FINALFUNC = theta_sketch_final_estimate, COMBINEFUNC = theta_sketch_combine,
+    SERIALFUNC = theta_sketch_serialize, DESERIALFUNC = theta_sketch_deserialize, PARALLEL = SAFE);
+CREATE FUNCTION theta_sketch_add(theta_sketch, oid) RETURNS theta_sketch
+    AS 'MODULE_PATHNAME', 'theta_sketch_insert_oid' LANGUAGE C IMMUTABLE PARALLEL SAFE COST 1000;
+CREATE AGGREGATE theta_sketch_build(oid, integer) (
+    SFUNC = theta_sketch_add_oid, STYPE = internal, FINALFUNC = theta_sketch_final, COMBINEFUNC = theta_sketch_combine,
+    SERIALFUNC = theta_sketch_serialize, DESERIALFUNC = theta_sketch_deserialize, PARALLEL = SAFE);
+CREATE AGGREGATE theta_sketch_distinct(oid, integer) (
+    SFUNC = theta_sketch_add_oid, STYPE = internal, FINALFUNC = theta_sketch_final_estimate, COMBINEFUNC = theta_sketch_combine,
+    SERIALFUNC = theta_sketch_serialize, DESERIALFUNC = theta_sketch_deserialize, PARALLEL = SAFE);
+CREATE FUNCTION theta_sketch_add(theta_sketch, oid, integer) RETURNS theta_sketch
+    AS 'MODULE_PATHNAME', 'theta_sketch_insert_oid' LANGUAGE C IMMUTABLE PARALLEL SAFE COST 1000;
+CREATE AGGREGATE tuple_sketch_build(oid, bigint) (
+    SFUNC = tuple_sketch_add_oid, STYPE = internal, FINALFUNC = tuple_sketch_final, COMBINEFUNC = tuple_sketch_combine,
+    SERIALFUNC = tuple_sketch_serialize, DESERIALFUNC = tuple_sketch_deserialize, PARALLEL = SAFE);
+CREATE FUNCTION tuple_sketch_add(tuple_sketch, oid, bigint) RETURNS tuple_sketch
+    AS 'MODULE_PATHNAME', 'tuple_sketch_insert_oid' LANGUAGE C IMMUTABLE PARALLEL SAFE COST 1000;
+CREATE AGGREGATE tuple_sketch_build(oid, bigint, integer) (
+    SFUNC = tuple_sketch_add_oid, STYPE = internal, FINALFUNC = tuple_sketch_final, COMBINEFUNC = tuple_sketch_combine,
+    SERIALFUNC = tuple_sketch_serialize, DESERIALFUNC = tuple_sketch_deserialize, PARALLEL = SAFE);
+CREATE FUNCTION tuple_sketch_add(tuple_sketch, oid, bigint, integer) RETURNS tuple_sketch
+    AS 'MODULE_PATHNAME', 'tuple_sketch_insert_oid' LANGUAGE C IMMUTABLE PARALLEL SAFE COST 1000;
+CREATE FUNCTION theta_sketch_add_float8(internal, double precision) RETURNS internal
+    AS 'MODULE_PATHNAME', 'theta_sketch_add_float8' LANGUAGE C IMMUTABLE PARALLEL SAFE COST 2;
+CREATE FUNCTION theta_sketch_add_float8(internal, double precision, integer) RETURNS internal
+    AS 'MODULE_PATHNAME', 'theta_sketch_add_float8' LANGUAGE C IMMUTABLE PARALLEL SAFE COST 2;
+CREATE FUNCTION tuple_sketch_add_float8(internal, double precision, bigint) RETURNS internal
+    AS 'MODULE_PATHNAME', 'tuple_sketch_add_float8' LANGUAGE C IMMUTABLE PARALLEL SAFE COST 2;
+CREATE FUNCTION tuple_sketch_add_float8(internal, double precision, bigint, integer) RETURNS internal
+    AS 'MODULE_PATHNAME', 'tuple_sketch_add_float8' LANGUAGE C IMMUTABLE PARALLEL SAFE COST 2;
+CREATE AGGREGATE theta_sketch_build(double precision) (
+    SFUNC = theta_sketch_add_float8, STYPE = internal, FINALFUNC = theta_sketch_final, COMBINEFUNC = theta_sketch_combine,
+    SERIALFUNC = theta_sketch_serialize, DESERIALFUNC = theta_sketch_deserialize, PARALLEL = SAFE);
+CREATE AGGREGATE theta_sketch_distinct(double precision) (
+    SFUNC = theta_sketch_add_float8, STYPE = internal, FINALFUNC = theta_sketch_final_estimate, COMBINEFUNC = theta_sketch_combine,
+    SERIALFUNC = theta_sketch_serialize, DESERIALFUNC = theta_sketch_deserialize, PARALLEL = SAFE);
+CREATE FUNCTION theta_sketch_add(theta_sketch, double precision) RETURNS theta_sketch
+    AS 'MODULE_PATHNAME', 'theta_sketch_insert_float8' LANGUAGE C IMMUTABLE PARALLEL SAFE COST 1000;
+CREATE AGGREGATE theta_sketch_build(double precision, integer) (
+    SFUNC = theta_sketch_add_float8, STYPE = internal, FINALFUNC = theta_sketch_final, COMBINEFUNC = theta_sketch_combine,
+    SERIALFUNC = theta_sketch_serialize, DESERIALFUNC = theta_sketch_deserialize, PARALLEL = SAFE);
+CREATE AGGREGATE theta_sketch_distinct(double precision, integer) (
+    SFUNC = theta_sketch_add_float8, STYPE = internal, FINALFUNC = theta_sketch_final_estimate, COMBINEFUNC = theta_sketch_combine,
+    SERIALFUNC = theta_sketch_serialize, DESERIALFUNC = theta_sketch_deserialize, PARALLEL = SAFE);
+CREATE FUNCTION theta_sketch_add(theta_sketch, double precision, integer) RETURNS theta_sketch
+    AS 'MODULE_PATHNAME', 'theta_sketch_insert_float8' LANGUAGE C IMMUTABLE PARALLEL SAFE COST 1000;
+CREATE AGGREGATE tuple_sketch_build(double precision, bigint) (
+    SFUNC = tuple_sketch_add_float8, STYPE = internal, FINALFUNC = tuple_sketch_final, COMBINEFUNC = tuple_sketch_combine,
+    SERIALFUNC = tuple_sketch_serialize, DESERIALFUNC = tuple_sketch_deserialize, PARALLEL = SAFE);
+CREATE FUNCTION tuple_sketch_add(tuple_sketch, double precision, bigint) RETURNS tuple_sketch
+    AS 'MODULE_PATHNAME', 'tuple_sketch_insert_float8' LANGUAGE C IMMUTABLE PARALLEL SAFE COST 1000;
+CREATE AGGREGATE tuple_sketch_build(double precision, bigint, integer) (
+    SFUNC = tuple_sketch_add_float8, STYPE = internal, FINALFUNC = tuple_sketch_final, COMBINEFUNC = tuple_sketch_combine,
+    SERIALFUNC = tuple_sketch_serialize, DESERIALFUNC = tuple_sketch_deserialize, PARALLEL = SAFE);
+CREATE FUNCTION tuple_sketch_add(tuple_sketch, double precision, bigint, integer) RETURNS tuple_sketch
+    AS 'MODULE_PATHNAME', 'tuple_sketch_insert_float8' LANGUAGE C IMMUTABLE PARALLEL SAFE COST 1000;
+CREATE AGGREGATE theta_sketch_build(numeric) (
+    SFUNC = theta_sketch_add_text, STYPE = internal, FINALFUNC = theta_sketch_final, COMBINEFUNC = theta_sketch_combine,
+    SERIALFUNC = theta_sketch_serialize, DESERIALFUNC = theta_sketch_deserialize, PARALLEL = SAFE);
+CREATE AGGREGATE theta_sketch_distinct(numeric) (
+    SFUNC = theta_sketch_add_text, STYPE = internal, FINALFUNC = theta_sketch_final_estimate, COMBINEFUNC = theta_sketch_combine,
+    SERIALFUNC = theta_sketch_serialize, DESERIALFUNC = theta_sketch_deserialize, PARALLEL = SAFE);
+CREATE FUNCTION theta_sketch_add(theta_sketch, numeric) RETURNS theta_sketch
+    AS 'MODULE_PATHNAME', 'theta_sketch_insert_text' LANGUAGE C IMMUTABLE PARALLEL SAFE COST 1000;
+CREATE AGGREGATE theta_sketch_build(numeric, integer) (
+    SFUNC = theta_sketch_add_text, STYPE = internal, FINALFUNC = theta_sketch_final, COMBINEFUNC = theta_sketch_combine,
+    SERIALFUNC = theta_sketch_serialize, DESERIALFUNC = theta_sketch_deserialize, PARALLEL = SAFE);
+CREATE AGGREGATE theta_sketch_distinct(numeric, integer) (
+    SFUNC = theta_sketch_add_text, STYPE = internal, FINALFUNC = theta_sketch_final_estimate, COMBINEFUNC = theta_sketch_combine,
+    SERIALFUNC = theta_sketch_serialize, DESERIALFUNC = theta_sketch_deserialize, PARALLEL = SAFE);
+CREATE FUNCTION theta_sketch_add(theta_sketch, numeric, integer) RETURNS theta_sketch
+    AS 'MODULE_PATHNAME', 'theta_sketch_insert_text' LANGUAGE C IMMUTABLE PARALLEL SAFE COST 1000;
+CREATE AGGREGATE tuple_sketch_build(numeric, bigint) (
+    SFUNC = tuple_sketch_add_text, STYPE = internal, FINALFUNC = tuple_sketch_final, COMBINEFUNC = tuple_sketch_combine,
+    SERIALFUNC = tuple_sketch_serialize, DESERIALFUNC = tuple_sketch_deserialize, PARALLEL = SAFE);
+CREATE FUNCTION tuple_sketch_add(tuple_sketch, numeric, bigint) RETURNS tuple_sketch
+    AS 'MODULE_PATHNAME', 'tuple_sketch_insert_text' LANGUAGE C IMMUTABLE PARALLEL SAFE COST 1000;
+CREATE AGGREGATE tuple_sketch_build(numeric, bigint, integer) (
+    SFUNC = tuple_sketch_add_text, STYPE = internal, FINALFUNC = tuple_sketch_final, COMBINEFUNC = tuple_sketch_combine,
+    SERIALFUNC = tuple_sketch_serialize, DESERIALFUNC = tuple_sketch_deserialize, PARALLEL = SAFE);
+CREATE FUNCTION tuple_sketch_add(tuple_sketch, numeric, bigint, integer) RETURNS tuple_sketch
+    AS 'MODULE_PATHNAME', 'tuple_sketch_insert_text' LANGUAGE C IMMUTABLE PARALLEL SAFE COST 1000;
+
 -- ---- Comparisons: equal sketches have equal images, so these are PostgreSQL's own functions of bytes ----
 
 CREATE FUNCTION theta_sketch_eq(theta_sketch, theta_sketch) RETURNS boolean AS 'byteaeq' LANGUAGE internal IMMUTABLE STRICT LEAKPROOF PARALLEL SAFE;
@@ -610,3 +777,69 @@ COMMENT ON AGGREGATE tuple_sketch_build(anyenum, bigint) IS 'the sketch of all k
 COMMENT ON FUNCTION tuple_sketch_add(tuple_sketch, anyenum, bigint) IS 'the sketch with a value added to the sum of a key';
 COMMENT ON AGGREGATE tuple_sketch_build(anyenum, bigint, integer) IS 'the sketch of all keys and of the sums of their values, of 2^lg_k nominal entries';
 COMMENT ON FUNCTION tuple_sketch_add(tuple_sketch, anyenum, bigint, integer) IS 'the sketch with a value added to the sum of a key, of 2^lg_k nominal entries';
+COMMENT ON FUNCTION theta_sketch_add_int2(internal, smallint) IS 'adds a key to a state';
+COMMENT ON FUNCTION theta_sketch_add_int2(internal, smallint, integer) IS 'adds a key to a state';
+COMMENT ON FUNCTION tuple_sketch_add_int2(internal, smallint, bigint) IS 'adds a value of a key to a state';
+COMMENT ON FUNCTION tuple_sketch_add_int2(internal, smallint, bigint, integer) IS 'adds a value of a key to a state';
+COMMENT ON AGGREGATE theta_sketch_build(smallint) IS 'the sketch of all keys';
+COMMENT ON AGGREGATE theta_sketch_distinct(smallint) IS 'estimates how many keys differ';
+COMMENT ON FUNCTION theta_sketch_add(theta_sketch, smallint) IS 'the sketch with one more key';
+COMMENT ON AGGREGATE theta_sketch_build(smallint, integer) IS 'the sketch of all keys, of 2^lg_k nominal entries';
+COMMENT ON AGGREGATE theta_sketch_distinct(smallint, integer) IS 'estimates how many keys differ, of 2^lg_k nominal entries';
+COMMENT ON FUNCTION theta_sketch_add(theta_sketch, smallint, integer) IS 'the sketch with one more key, of 2^lg_k nominal entries';
+COMMENT ON AGGREGATE tuple_sketch_build(smallint, bigint) IS 'the sketch of all keys and of the sums of their values';
+COMMENT ON FUNCTION tuple_sketch_add(tuple_sketch, smallint, bigint) IS 'the sketch with a value added to the sum of a key';
+COMMENT ON AGGREGATE tuple_sketch_build(smallint, bigint, integer) IS 'the sketch of all keys and of the sums of their values, of 2^lg_k nominal entries';
+COMMENT ON FUNCTION tuple_sketch_add(tuple_sketch, smallint, bigint, integer) IS 'the sketch with a value added to the sum of a key, of 2^lg_k nominal entries';
+COMMENT ON FUNCTION theta_sketch_add_int4(internal, integer) IS 'adds a key to a state';
+COMMENT ON FUNCTION theta_sketch_add_int4(internal, integer, integer) IS 'adds a key to a state';
+COMMENT ON FUNCTION tuple_sketch_add_int4(internal, integer, bigint) IS 'adds a value of a key to a state';
+COMMENT ON FUNCTION tuple_sketch_add_int4(internal, integer, bigint, integer) IS 'adds a value of a key to a state';
+COMMENT ON AGGREGATE theta_sketch_build(integer) IS 'the sketch of all keys';
+COMMENT ON AGGREGATE theta_sketch_distinct(integer) IS 'estimates how many keys differ';
+COMMENT ON FUNCTION theta_sketch_add(theta_sketch, integer) IS 'the sketch with one more key';
+COMMENT ON AGGREGATE theta_sketch_build(integer, integer) IS 'the sketch of all keys, of 2^lg_k nominal entries';
+COMMENT ON AGGREGATE theta_sketch_distinct(integer, integer) IS 'estimates how many keys differ, of 2^lg_k nominal entries';
+COMMENT ON FUNCTION theta_sketch_add(theta_sketch, integer, integer) IS 'the sketch with one more key, of 2^lg_k nominal entries';
+COMMENT ON AGGREGATE tuple_sketch_build(integer, bigint) IS 'the sketch of all keys and of the sums of their values';
+COMMENT ON FUNCTION tuple_sketch_add(tuple_sketch, integer, bigint) IS 'the sketch with a value added to the sum of a key';
+COMMENT ON AGGREGATE tuple_sketch_build(integer, bigint, integer) IS 'the sketch of all keys and of the sums of their values, of 2^lg_k nominal entries';
+COMMENT ON FUNCTION tuple_sketch_add(tuple_sketch, integer, bigint, integer) IS 'the sketch with a value added to the sum of a key, of 2^lg_k nominal entries';
+COMMENT ON FUNCTION theta_sketch_add_oid(internal, oid) IS 'adds a key to a state';
+COMMENT ON FUNCTION theta_sketch_add_oid(internal, oid, integer) IS 'adds a key to a state';
+COMMENT ON FUNCTION tuple_sketch_add_oid(internal, oid, bigint) IS 'adds a value of a key to a state';
+COMMENT ON FUNCTION tuple_sketch_add_oid(internal, oid, bigint, integer) IS 'adds a value of a key to a state';
+COMMENT ON AGGREGATE theta_sketch_build(oid) IS 'the sketch of all keys';
+COMMENT ON AGGREGATE theta_sketch_distinct(oid) IS 'estimates how many keys differ';
+COMMENT ON FUNCTION theta_sketch_add(theta_sketch, oid) IS 'the sketch with one more key';
+COMMENT ON AGGREGATE theta_sketch_build(oid, integer) IS 'the sketch of all keys, of 2^lg_k nominal entries';
+COMMENT ON AGGREGATE theta_sketch_distinct(oid, integer) IS 'estimates how many keys differ, of 2^lg_k nominal entries';
+COMMENT ON FUNCTION theta_sketch_add(theta_sketch, oid, integer) IS 'the sketch with one more key, of 2^lg_k nominal entries';
+COMMENT ON AGGREGATE tuple_sketch_build(oid, bigint) IS 'the sketch of all keys and of the sums of their values';
+COMMENT ON FUNCTION tuple_sketch_add(tuple_sketch, oid, bigint) IS 'the sketch with a value added to the sum of a key';
+COMMENT ON AGGREGATE tuple_sketch_build(oid, bigint, integer) IS 'the sketch of all keys and of the sums of their values, of 2^lg_k nominal entries';
+COMMENT ON FUNCTION tuple_sketch_add(tuple_sketch, oid, bigint, integer) IS 'the sketch with a value added to the sum of a key, of 2^lg_k nominal entries';
+COMMENT ON FUNCTION theta_sketch_add_float8(internal, double precision) IS 'adds a key to a state';
+COMMENT ON FUNCTION theta_sketch_add_float8(internal, double precision, integer) IS 'adds a key to a state';
+COMMENT ON FUNCTION tuple_sketch_add_float8(internal, double precision, bigint) IS 'adds a value of a key to a state';
+COMMENT ON FUNCTION tuple_sketch_add_float8(internal, double precision, bigint, integer) IS 'adds a value of a key to a state';
+COMMENT ON AGGREGATE theta_sketch_build(double precision) IS 'the sketch of all keys';
+COMMENT ON AGGREGATE theta_sketch_distinct(double precision) IS 'estimates how many keys differ';
+COMMENT ON FUNCTION theta_sketch_add(theta_sketch, double precision) IS 'the sketch with one more key';
+COMMENT ON AGGREGATE theta_sketch_build(double precision, integer) IS 'the sketch of all keys, of 2^lg_k nominal entries';
+COMMENT ON AGGREGATE theta_sketch_distinct(double precision, integer) IS 'estimates how many keys differ, of 2^lg_k nominal entries';
+COMMENT ON FUNCTION theta_sketch_add(theta_sketch, double precision, integer) IS 'the sketch with one more key, of 2^lg_k nominal entries';
+COMMENT ON AGGREGATE tuple_sketch_build(double precision, bigint) IS 'the sketch of all keys and of the sums of their values';
+COMMENT ON FUNCTION tuple_sketch_add(tuple_sketch, double precision, bigint) IS 'the sketch with a value added to the sum of a key';
+COMMENT ON AGGREGATE tuple_sketch_build(double precision, bigint, integer) IS 'the sketch of all keys and of the sums of their values, of 2^lg_k nominal entries';
+COMMENT ON FUNCTION tuple_sketch_add(tuple_sketch, double precision, bigint, integer) IS 'the sketch with a value added to the sum of a key, of 2^lg_k nominal entries';
+COMMENT ON AGGREGATE theta_sketch_build(numeric) IS 'the sketch of all keys';
+COMMENT ON AGGREGATE theta_sketch_distinct(numeric) IS 'estimates how many keys differ';
+COMMENT ON FUNCTION theta_sketch_add(theta_sketch, numeric) IS 'the sketch with one more key';
+COMMENT ON AGGREGATE theta_sketch_build(numeric, integer) IS 'the sketch of all keys, of 2^lg_k nominal entries';
+COMMENT ON AGGREGATE theta_sketch_distinct(numeric, integer) IS 'estimates how many keys differ, of 2^lg_k nominal entries';
+COMMENT ON FUNCTION theta_sketch_add(theta_sketch, numeric, integer) IS 'the sketch with one more key, of 2^lg_k nominal entries';
+COMMENT ON AGGREGATE tuple_sketch_build(numeric, bigint) IS 'the sketch of all keys and of the sums of their values';
+COMMENT ON FUNCTION tuple_sketch_add(tuple_sketch, numeric, bigint) IS 'the sketch with a value added to the sum of a key';
+COMMENT ON AGGREGATE tuple_sketch_build(numeric, bigint, integer) IS 'the sketch of all keys and of the sums of their values, of 2^lg_k nominal entries';
+COMMENT ON FUNCTION tuple_sketch_add(tuple_sketch, numeric, bigint, integer) IS 'the sketch with a value added to the sum of a key, of 2^lg_k nominal entries';

@@ -41,12 +41,14 @@ FUNCTION(theta_sketch_add_bytes) {
     PG_RETURN_POINTER(state);
 }
 
-FUNCTION(theta_sketch_add_int8) {
-    if (PG_ARGISNULL(1)) return unchanged(fcinfo);
-    UnionState *state = state_for_row(fcinfo, 2, DEFAULT_LG_K);
-    want(TYPE, union_add_number(&state->group, (uint64_t)PG_GETARG_INT64(1)));
-    PG_RETURN_POINTER(state);
-}
+#define ADD(of, bits) \
+    FUNCTION(theta_sketch_add_##of) { \
+        if (PG_ARGISNULL(1)) return unchanged(fcinfo); \
+        UnionState *state = state_for_row(fcinfo, 2, DEFAULT_LG_K); \
+        want(TYPE, union_add_number(&state->group, bits)); \
+        PG_RETURN_POINTER(state); \
+    }
+FOR_TYPES_OF_NUMBERS(ADD)
 
 FUNCTION(theta_sketch_add_text) {
     if (PG_ARGISNULL(1)) return unchanged(fcinfo);
@@ -77,14 +79,16 @@ FUNCTION(theta_sketch_insert_bytes) {
     return end_add(fcinfo, &group, &sketch);
 }
 
-FUNCTION(theta_sketch_insert_int8) {
-    union_group group = {.lg_k = 0};
-    kc_compact sketch = {0};
-    if (PG_ARGISNULL(1)) return unchanged(fcinfo);
-    begin_add(fcinfo, 2, &group, &sketch);
-    want(TYPE, union_add_number(&group, (uint64_t)PG_GETARG_INT64(1)));
-    return end_add(fcinfo, &group, &sketch);
-}
+#define INSERT(of, bits) \
+    FUNCTION(theta_sketch_insert_##of) { \
+        union_group group = {.lg_k = 0}; \
+        kc_compact sketch = {0}; \
+        if (PG_ARGISNULL(1)) return unchanged(fcinfo); \
+        begin_add(fcinfo, 2, &group, &sketch); \
+        want(TYPE, union_add_number(&group, bits)); \
+        return end_add(fcinfo, &group, &sketch); \
+    }
+FOR_TYPES_OF_NUMBERS(INSERT)
 
 FUNCTION(theta_sketch_final_estimate) {
     kc_compact sketch = {0};

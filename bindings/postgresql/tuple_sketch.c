@@ -54,12 +54,14 @@ FUNCTION(tuple_sketch_add_bytes) {
     PG_RETURN_POINTER(state);
 }
 
-FUNCTION(tuple_sketch_add_int8) {
-    if (PG_ARGISNULL(1) || PG_ARGISNULL(2)) return unchanged(fcinfo);
-    UnionState *state = state_for_row(fcinfo, 3, DEFAULT_LG_K);
-    want(TYPE, sums_add_number(&state->group, (uint64_t)PG_GETARG_INT64(1), value_at(fcinfo, TYPE, 2)));
-    PG_RETURN_POINTER(state);
-}
+#define ADD(of, bits) \
+    FUNCTION(tuple_sketch_add_##of) { \
+        if (PG_ARGISNULL(1) || PG_ARGISNULL(2)) return unchanged(fcinfo); \
+        UnionState *state = state_for_row(fcinfo, 3, DEFAULT_LG_K); \
+        want(TYPE, sums_add_number(&state->group, bits, value_at(fcinfo, TYPE, 2))); \
+        PG_RETURN_POINTER(state); \
+    }
+FOR_TYPES_OF_NUMBERS(ADD)
 
 FUNCTION(tuple_sketch_add_text) {
     if (PG_ARGISNULL(1) || PG_ARGISNULL(2)) return unchanged(fcinfo);
@@ -92,12 +94,14 @@ FUNCTION(tuple_sketch_insert_bytes) {
     return end_add(fcinfo, &group, &sketch);
 }
 
-FUNCTION(tuple_sketch_insert_int8) {
-    sums_group group = {.lg_k = 0};
-    kc_compact_sums sketch = {0};
-    if (PG_ARGISNULL(1) || PG_ARGISNULL(2)) return unchanged(fcinfo);
-    uint64_t value = value_at(fcinfo, TYPE, 2);
-    begin_add(fcinfo, 3, &group, &sketch);
-    want(TYPE, sums_add_number(&group, (uint64_t)PG_GETARG_INT64(1), value));
-    return end_add(fcinfo, &group, &sketch);
-}
+#define INSERT(of, bits) \
+    FUNCTION(tuple_sketch_insert_##of) { \
+        sums_group group = {.lg_k = 0}; \
+        kc_compact_sums sketch = {0}; \
+        if (PG_ARGISNULL(1) || PG_ARGISNULL(2)) return unchanged(fcinfo); \
+        uint64_t value = value_at(fcinfo, TYPE, 2); \
+        begin_add(fcinfo, 3, &group, &sketch); \
+        want(TYPE, sums_add_number(&group, bits, value)); \
+        return end_add(fcinfo, &group, &sketch); \
+    }
+FOR_TYPES_OF_NUMBERS(INSERT)

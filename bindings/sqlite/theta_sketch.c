@@ -43,19 +43,17 @@ static void add(context *call, int count, value **arguments) {
     union_free(&group);
 }
 
-static void distinct_value(context *call) {
+static void put_distinct(context *call, int is_last) {
     kc_compact sketch = {0};
     kc_state state;
-    kc_status status = result_of(call, &sketch);
+    kc_status status = result_of(call, is_last, &sketch);
     if (status == KC_OK) status = kc_compact_state(&sketch, &state);
     if (passed(call, status)) put_estimate(call, &state);
     kc_compact_free(&sketch);
 }
 
-static void distinct_final(context *call) {
-    distinct_value(call);
-    end_union(call);
-}
+static void distinct_value(context *call) { put_distinct(call, 0); }
+static void distinct_final(context *call) { put_distinct(call, 1); }
 
 static void to_text(context *call, int count, value **arguments) {
     char text[DESCRIPTION_ROOM] = "";

@@ -13,6 +13,10 @@ SELECT theta_sketch_to_string(theta_sketch_union(a.s, b.s)), theta_sketch_to_str
 SELECT theta_sketch_to_string(theta_sketch_build(x, 5)), theta_sketch_get_estimate_and_bounds(theta_sketch_build(x, 5), 3)
     FROM generate_series(1::bigint, 1000) x;
 SELECT theta_sketch_add(s, 'ann') = s, theta_sketch_to_string(theta_sketch_add(s, 'dan', 12)) FROM days ORDER BY day;
+SELECT theta_sketch_build(258) = theta_sketch_build('\x0201000000000000'::bytea), theta_sketch_build(1::smallint) = theta_sketch_build(1::oid),
+    theta_sketch_build(1.5::real) = theta_sketch_build('\x000000000000f83f'::bytea), theta_sketch_distinct(x) FROM (VALUES (0.0::float8), ('-0'::float8)) v(x);
+SELECT theta_sketch_build(x) = theta_sketch_build('1'), count(DISTINCT x), tuple_sketch_build(x, 2) = tuple_sketch_add(NULL, 1.000, 4)
+    FROM (VALUES (1.0), (1.00)) v(x);
 
 -- Tuple sketches of sums.
 CREATE TABLE sums AS SELECT day, tuple_sketch_build(name, n) AS s FROM visits GROUP BY day;

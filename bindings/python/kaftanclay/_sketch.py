@@ -28,11 +28,6 @@ else:
     _Sketch = _Updatable = _Compact = object
 
 
-def entries_of(image: bytes) -> bytes:
-    """The entries of an image that the library wrote: what is behind its preamble."""
-    return image[8 * (image[0] & 0x3F) :]
-
-
 def image_of(data: Any) -> bytes:
     """The bytes of an image. Raises TypeError for anything but bytes."""
     if not isinstance(data, (bytes, bytearray, memoryview)):

@@ -19,7 +19,7 @@ class InvalidArgumentError(SketchError, ValueError):
 
 
 class InvalidDataError(SketchError, ValueError):
-    """The bytes begin with no image of a sketch of this seed."""
+    """The bytes are no image of a sketch of this seed, or more than one image."""
 
     status = 2
 
@@ -51,7 +51,7 @@ class SketchWarning(UserWarning):
 
 _REASONS: dict[int, tuple[type[SketchError], str]] = {
     1: (InvalidArgumentError, "an argument is out of range"),
-    2: (InvalidDataError, "the bytes begin with no image of such a sketch under this seed"),
+    2: (InvalidDataError, "the bytes are not one image of such a sketch under this seed"),
     3: (OutOfMemoryError, "the memory that the call requested was refused"),
     4: (PolicyError, "a sum would be 2^64 or more"),
     5: (FailedError, "memory or a sum was refused in an earlier merge; reset the union"),

@@ -83,7 +83,7 @@ class CompactTupleSums(CompactSketch, SumsValue, _native.CompactSums):
 
     @classmethod
     def from_bytes(cls, data: bytes, seed: int = DEFAULT_SEED, lg_k: int | None = None) -> CompactTupleSums:
-        """Reads the sketch that the bytes begin with, as CompactThetaSketch.from_bytes does, with its errors."""
+        """Reads the sketch of an image, as CompactThetaSketch.from_bytes does, with its errors."""
         seed = seed_of(seed)
         return cls._of(*_native.sums_read(image_of(data), seed), seed, lg_k)
 

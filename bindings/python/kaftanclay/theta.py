@@ -9,7 +9,7 @@ from typing import Any, Protocol, cast
 from . import _native
 from ._keys import Key
 from ._native import DEFAULT_SEED
-from ._sketch import CompactSketch, Merge, Sketch, UpdatableSketch, entries_of, image_of, require_seed, seed_of, unite
+from ._sketch import CompactSketch, Merge, Sketch, UpdatableSketch, image_of, require_seed, seed_of, unite
 
 __all__ = ["CompactThetaSketch", "Key", "ThetaIntersection", "ThetaSketch", "ThetaUnion"]
 
@@ -49,7 +49,7 @@ class ThetaValue(Sketch):
 
     def hashes(self) -> list[int]:
         """The hashes that it retains, from 1 to 2^63 - 1, which ascend. Raises OutOfMemoryError."""
-        return array("Q", entries_of(self.to_bytes())).tolist()
+        return array("Q", _native.theta_hashes(self.to_bytes(), self.seed)).tolist()
 
     def __or__(self, other: ThetaValue) -> CompactThetaSketch:
         if not isinstance(other, ThetaValue):
@@ -92,12 +92,13 @@ class CompactThetaSketch(CompactSketch, ThetaValue, _native.CompactTheta):
 
     @classmethod
     def from_bytes(cls, data: bytes, seed: int = DEFAULT_SEED, lg_k: int | None = None) -> CompactThetaSketch:
-        """Reads the sketch that the bytes begin with, under this seed; bytes after it are ignored.
+        """Reads the sketch of an image under this seed.
 
         An image has no `lg_k`: pass that of the sketch, if you know it. It limits only what unions with this sketch retain. If
-        none is passed, it is guessed as the least from 12 on with 2^lg_k at least the retained hashes, and `|` keeps all. Raises InvalidDataError if the bytes begin with no sketch of this
-        seed, InvalidArgumentError if lg_k isn't from 4 to 26 or the seed from 0 to 2^64 - 1, TypeError for anything but
-        bytes, and OutOfMemoryError.
+        none is passed, it is guessed as the least from 12 on with 2^lg_k at least the retained hashes, and `|` keeps all. Raises
+        InvalidDataError if the bytes aren't the image of one sketch of this seed, also if bytes follow an image,
+        InvalidArgumentError if lg_k isn't from 4 to 26 or the seed from 0 to 2^64 - 1, TypeError for anything but bytes, and
+        OutOfMemoryError.
         """
         data, seed = image_of(data), seed_of(seed)
         # The difference with the empty sketch is the sketch itself, ordered, as the library writes it.
@@ -145,7 +146,7 @@ class ThetaSketch(UpdatableSketch, ThetaValue, _native.Theta):
             self._update_pieces(pieces_of(source))
 
     def _fill(self, value: CompactSketch) -> None:
-        self._insert(entries_of(value.to_bytes()), value.is_empty)
+        self._insert(_native.theta_hashes(value.to_bytes(), value.seed), value.is_empty)
 
 
 class ThetaUnion(Merge, _native.Union):

@@ -54,6 +54,13 @@ kc_status read_entries(kc_compact_sums *sketch, uint64_t **entries, uint64_t *co
     return kc_compact_sums_entries(sketch, *entries, *entries + state.retained, (size_t)state.retained, count);
 }
 
+/* KC_INVALID_DATA for an image with bytes behind it. Other faults are for the call that reads it. */
+kc_status check_end(bool of_sums, const char *image, Py_ssize_t count, unsigned long long seed) {
+    kc_finding found;
+    kc_status status = of_sums ? kc_sums_image_flaw(image, (size_t)count, seed, &found) : kc_image_flaw(image, (size_t)count, seed, &found);
+    return status == KC_OK && found.length != 0 && found.length < (uint64_t)count ? KC_INVALID_DATA : KC_OK;
+}
+
 typedef struct {
     const char *first, *second;
     Py_ssize_t first_count, second_count;
@@ -73,6 +80,9 @@ static kc_status subtract(void *what, void *out, size_t room, uint64_t *length) 
 static PyObject *combined(PyObject *given, Writer writer) {
     Images it;
     if (!PyArg_ParseTuple(given, "y#y#K", &it.first, &it.first_count, &it.second, &it.second_count, &it.seed)) return NULL;
+    kc_status status = check_end(false, it.first, it.first_count, it.seed);
+    if (status == KC_OK) status = check_end(false, it.second, it.second_count, it.seed);
+    if (status != KC_OK) return refuse(status, NULL);
     return written(writer, &it, (size_t)it.first_count + 24, it.first_count + it.second_count > 8 * MANY);
 }
 
@@ -130,7 +140,8 @@ static PyObject *sums_read(PyObject *module, PyObject *given) {
     kc_compact_sums sketch = {0};
     (void)module;
     if (!PyArg_ParseTuple(given, "y#K", &image, &count, &seed)) return NULL;
-    kc_status status = read_sums(&sketch, image, count, seed);
+    kc_status status = check_end(true, image, count, seed);
+    if (status == KC_OK) status = read_sums(&sketch, image, count, seed);
     return status == KC_OK ? result_of_sums(&sketch) : refuse(status, NULL);
 }
 
@@ -171,6 +182,25 @@ static PyObject *sums_entries(PyObject *module, PyObject *given) {
     PyObject *list = status == KC_OK ? list_of_entries(entries, count) : refuse(status, NULL);
     PyMem_Free(entries);
     return list;
+}
+
+static PyObject *theta_hashes(PyObject *module, PyObject *given) {
+    const char *image;
+    Py_ssize_t length;
+    unsigned long long seed;
+    kc_compact sketch = {0};
+    kc_state state = {0};
+    uint64_t *hashes = NULL, count = 0;
+    (void)module;
+    if (!PyArg_ParseTuple(given, "y#K", &image, &length, &seed)) return NULL;
+    kc_status status = kc_compact_read(&sketch, image, (size_t)length, seed);
+    if (status == KC_OK) status = kc_compact_state(&sketch, &state);
+    if (status == KC_OK) hashes = PyMem_Malloc(8 * (size_t)state.retained + 8);
+    if (status == KC_OK) status = hashes != NULL ? kc_compact_hashes(&sketch, hashes, (size_t)state.retained, &count) : KC_OUT_OF_MEMORY;
+    kc_compact_free(&sketch);
+    PyObject *bytes = status == KC_OK ? PyBytes_FromStringAndSize((const char *)hashes, 8 * (Py_ssize_t)count) : refuse(status, NULL);
+    PyMem_Free(hashes);
+    return bytes;
 }
 
 static PyObject *sums_difference(PyObject *module, PyObject *given) {
@@ -221,8 +251,9 @@ PyMethodDef functions[] = {
     {"images_intersect", images_intersect, METH_VARARGS, "The image of the intersection of the sketches of two images, of a seed."},
     {"images_difference", images_difference, METH_VARARGS, "The image of the difference of the sketches of two images, of a seed."},
     {"image_state", image_state, METH_VARARGS, "The state of the sketch of an image, of a seed."},
-    {"sums_read", sums_read, METH_VARARGS, "The sketch of sums that bytes begin with, of a seed: its image and its state."},
+    {"sums_read", sums_read, METH_VARARGS, "The sketch of sums of an image, of a seed: its image and its state."},
     {"sums_total", sums_total, METH_VARARGS, "The sums of an image of a seed together."},
+    {"theta_hashes", theta_hashes, METH_VARARGS, "The hashes of an image of a seed, in its order: eight bytes each, in this machine's order."},
     {"sums_entries", sums_entries, METH_VARARGS, "The hashes and sums of an image of a seed, in its order."},
     {"sums_difference", sums_difference, METH_VARARGS, "The difference of two images of sums of a seed: its image and its state."},
     {"add_groups", add_groups, METH_VARARGS, "Adds keys to the sketches of their groups."},

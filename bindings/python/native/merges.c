@@ -200,9 +200,20 @@ static int warn_of_image(Object *o, PyObject *bytes) {
     return state_of_image(o, image, (size_t)count, &state) == KC_OK ? warn_of(o, &state) : 0;
 }
 
+/* Refuses bytes behind an image. */
+static int require_end(const Object *o, PyObject *bytes) {
+    char *image;
+    Py_ssize_t count;
+    if (PyBytes_AsStringAndSize(bytes, &image, &count)) return -1;
+    kc_status status = check_end(o->kind->of_sums, image, count, o->settings.seed);
+    if (status == KC_OK) return 0;
+    refuse(status, NULL);
+    return -1;
+}
+
 /* Adds the image of bytes, whose reference is the function's own now. */
 static int add_image_of(Object *o, Waiting *waiting, PyObject *bytes) {
-    if (bytes == NULL || warn_of_image(o, bytes) == 0) return add_bytes(o, waiting, bytes);
+    if (bytes == NULL || (require_end(o, bytes) == 0 && warn_of_image(o, bytes) == 0)) return add_bytes(o, waiting, bytes);
     Py_DECREF(bytes);
     return -1;
 }
@@ -316,7 +327,7 @@ static PyObject *union_reset(PyObject *self, PyObject *unused) {
     METHOD("update", merge_update, \
            "update($self, sketch)\n--\n\n" \
            "Merges a sketch, or the bytes of an image; or all of a list or another iterable of these. None of them changes.\n\n" \
-           "Raises InvalidArgumentError for a sketch of another seed, InvalidDataError for bytes that begin with no image of\n" \
+           "Raises InvalidArgumentError for a sketch of another seed, InvalidDataError for bytes that are not one image of\n" \
            "this seed, TypeError for anything else, and OutOfMemoryError. If one of several is refused, exactly those before it\n" \
            "have been merged." more), \
     {"_result", merge_result, METH_NOARGS, "The image and the state of its value."}

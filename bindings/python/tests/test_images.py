@@ -1,8 +1,12 @@
 """Damaged images: what the library reads is what a second reader reads."""
 import random
 
-from kaftanclay import CompactThetaSketch, CompactTupleSums, InvalidDataError, ThetaUnion
-from read_images import damaged, sketch_line
+import pytest
+from kaftanclay import (
+    CompactThetaSketch, CompactTupleSums, InvalidDataError, ThetaIntersection, ThetaSketch, ThetaUnion, TupleSums, TupleSumsIntersection,
+    TupleSumsUnion,
+)
+from read_images import damaged, length_of, sketch_line
 
 COUNT = 10000
 
@@ -26,16 +30,54 @@ def ordered(line):
 
 
 def test_damaged_images():
-    chance, refused, union = random.Random(20), 0, ThetaUnion()
+    """Bytes behind an image are refused, and without them the image is read."""
+    chance, refused, longer, union = random.Random(20), 0, 0, ThetaUnion()
     for _ in range(COUNT):
         kind, image = damaged(chance)
         for read in ("theta", "u64"):
             wanted = ordered(sketch_line(read, image))
+            if wanted != "refused data" and length_of(read, image) < len(image):
+                longer += 1
+                assert line_of(read, image) == "refused data", (kind, image.hex())
+                image = image[: length_of(read, image)]
             assert line_of(read, image) == wanted, (kind, image.hex())
             refused += wanted == "refused data"
             if read == "theta" and wanted != "refused data":
                 union.update(image)
-    assert COUNT < refused < 2 * COUNT and not union.result().is_empty
+    assert COUNT < refused < 2 * COUNT and longer > 100 and not union.result().is_empty
+
+
+MERGES = {
+    "theta": (ThetaSketch, (ThetaUnion, ThetaIntersection)), "sums": (TupleSums, (TupleSumsUnion, TupleSumsIntersection)),
+}
+
+
+@pytest.mark.parametrize("family", MERGES)
+@pytest.mark.parametrize("count", (0, 1, 2, 3000))
+def test_bytes_behind_an_image(family, count):
+    """They are refused, of whatever length, by each call that reads, and nothing changes."""
+    kind, merges = MERGES[family]
+    sketch = kind()
+    for key in range(count):
+        sketch.update(key, *((1,) if family == "sums" else ()))
+    image = sketch.to_bytes()
+    compact = type(sketch.compact())
+    for more in (b"\0", b"more", image, image[:-1], bytes(9000)):
+        longer = image + more
+        for data in (longer, bytearray(longer), memoryview(longer)):
+            for call in (kind.from_bytes, compact.from_bytes):
+                with pytest.raises(InvalidDataError):
+                    call(data)
+            for merge in merges:
+                merged, before = merge(), merge()
+                for it in (merged, before):
+                    it.update(image)
+                for some in (data, [data], [image, data]):
+                    with pytest.raises(InvalidDataError):
+                        merged.update(some)
+                before.update(image)
+                assert merged.result().to_bytes() == before.result().to_bytes()
+    assert compact.from_bytes(image).to_bytes() == image and kind.from_bytes(bytearray(image)).to_bytes() == image
 
 
 def test_random_bytes():
@@ -43,4 +85,6 @@ def test_random_bytes():
     for _ in range(COUNT):
         image = chance.randbytes(chance.randrange(64))
         for read in ("theta", "u64"):
-            assert line_of(read, image) == ordered(sketch_line(read, image))
+            wanted = ordered(sketch_line(read, image))
+            is_longer = wanted != "refused data" and length_of(read, image) < len(image)
+            assert line_of(read, image) == ("refused data" if is_longer else wanted)

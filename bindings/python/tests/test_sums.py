@@ -204,11 +204,11 @@ def test_sum_of_an_intersection_is_too_great():
 
 def test_compact_sums_are_values():
     compact = sums_of({key: key for key in range(9000)}).compact()
-    read = CompactTupleSums.from_bytes(compact.to_bytes() + b"more")
+    read = CompactTupleSums.from_bytes(compact.to_bytes())
     assert read == compact and hash(read) == hash(compact) and read != sums_of({"ann": 1}).compact()
     for other in (copy.copy(read), copy.deepcopy(read), pickle.loads(pickle.dumps(read))):
         assert other == read and other.lg_k == read.lg_k
-    for data in (b"", b"abc", ThetaSketch().to_bytes(), compact.to_bytes()[:-1]):
+    for data in (b"", b"abc", ThetaSketch().to_bytes(), compact.to_bytes()[:-1], compact.to_bytes() + b"more"):
         with pytest.raises(InvalidDataError):
             CompactTupleSums.from_bytes(data)
     with pytest.raises(InvalidDataError):

@@ -206,6 +206,14 @@ fn value(random: &mut Random, course: &Course) -> Value {
     }
 }
 
+/// A hash of a caller's own.
+fn hash(random: &mut Random) -> u64 {
+    match random.below(6) {
+        0 => random.of(&[0, 1, 2, MAX_THETA, MAX_THETA - 1]),
+        _ => (random.below(300) + 1).wrapping_mul(0x9e37_79b9_7f4a_7c15) >> 1,
+    }
+}
+
 /// An image with some damage, or with another preamble.
 fn damaged(random: &mut Random, image: &[u8], width: usize) -> Vec<u8> {
     let mut bytes = image.to_vec();
@@ -513,10 +521,7 @@ family! {
     entry u64, |it: o::theta::ThetaEntry| it.hash(), |it: k::theta::ThetaEntry| it.hash();
     update |random, (a, b), value| {
         if random.one_in(8) {
-            let hash = match random.below(6) {
-                0 => random.of(&[0, 1, 2, MAX_THETA, MAX_THETA - 1]),
-                _ => (random.below(300) + 1).wrapping_mul(0x9e37_79b9_7f4a_7c15) >> 1,
-            };
+            let hash = hash(random);
             a.update_hash(hash);
             b.update_hash(hash);
         } else {
@@ -597,8 +602,14 @@ macro_rules! tuples {
                 |it: &k::tuple::TupleEntry<$summary>| (it.hash(), *it.summary());
             update |random, (a, b), value| {
                 let number = (random.next() >> random.of(&[30, 50, 60])) as $value;
-                a.update(value.clone(), number);
-                b.update(value, number);
+                if random.one_in(8) {
+                    let hash = hash(random);
+                    a.update_hash(hash, number);
+                    b.update_hash(hash, number);
+                } else {
+                    a.update(value.clone(), number);
+                    b.update(value, number);
+                }
             }
         }
     };

@@ -1,9 +1,17 @@
-//! Nanoseconds of processor time an item of the original crate and of this one, the least of rounds in turns:
-//! `speed [ROUNDS] [WORD]`, of the cases whose names have the word. docs/use/PERFORMANCE.md has a run.
+//! Nanoseconds of processor time an item of the original crate, of this one, and of the proved crates without the border
+//! to C, in one run: `speed [ROUNDS] [WORD]`, of the rows whose names have the word.
+//!
+//! checks/rust builds it, as bindings/rust/build/release/speed. The first twenty rows are cases that
+//! bench/plans/sketch_bench.rt.txt describes, on its input; behind them are small sketches and others. In each round the
+//! crates run in turns, and a row has the least of all rounds. If SKETCH_BENCH names the program that
+//! `BENCH_PLACE=DIR bench/plans/run.py` leaves at DIR/crates/sketch_bench/out/sketch_bench, it runs in turns with them:
+//! then the twenty rows have its time too, and what this crate takes more, the cost of the border, which is that of this
+//! crate's lines and of the calls of C. `same` says that the numbers of all answers are one. Give it a core of its own, as
+//! by `taskset -c 3`, on a quiet machine. docs/use/PERFORMANCE.md has a run.
 
-use kaftanclay as k;
-use original as o;
 use std::hint::black_box;
+use std::os::unix::process::CommandExt;
+use std::process::Command;
 
 /// The nanoseconds that this thread has had of a processor.
 fn processor_time() -> u64 {
@@ -17,229 +25,393 @@ fn processor_time() -> u64 {
     time[0] as u64 * 1_000_000_000 + time[1] as u64
 }
 
-/// Runs both in turns, and prints the least times and their ratio.
-fn compare(rounds: usize, name: &str, items: u64, mut original: impl FnMut(), mut ours: impl FnMut()) {
-    if !name.contains(&std::env::args().nth(2).unwrap_or_default()) {
-        return;
-    }
-    let time = |run: &mut dyn FnMut()| {
-        let begun = processor_time();
-        run();
-        (processor_time() - begun) as f64 / items as f64
+/// Nanoseconds, and a number that depends on the answer alone, if there is one.
+type Found = (u64, Option<u64>);
+
+/// How many items a run has, and the run.
+type Case = (u64, Box<dyn FnMut() -> Found>);
+
+/// Times a run. Its answer is checked and dropped when the clock has stopped.
+fn timed<T>(run: impl FnOnce() -> T, check: impl FnOnce(&T) -> Option<u64>) -> Found {
+    let begun = processor_time();
+    let answer = black_box(run());
+    let taken = processor_time() - begun;
+    (taken, check(&answer))
+}
+
+/// Output number i of splitmix64, halved.
+fn h(i: u64) -> u64 {
+    let mut x = i.wrapping_add(1).wrapping_mul(0x9e37_79b9_7f4a_7c15);
+    x = (x ^ (x >> 30)).wrapping_mul(0xbf58_476d_1ce4_e5b9);
+    x = (x ^ (x >> 27)).wrapping_mul(0x94d0_49bb_1331_11eb);
+    (x ^ (x >> 31)) >> 1
+}
+
+fn hashes(from: u64, to: u64) -> Vec<u64> {
+    (from..to).map(h).collect()
+}
+
+/// 4096 hashes again and again.
+fn repeated(count: u64) -> Vec<u64> {
+    (0..count).map(|it| h(it % 4096)).collect()
+}
+
+fn summed(theta: u64, count: usize, numbers: impl Iterator<Item = u64>) -> Option<u64> {
+    Some(numbers.fold(theta.wrapping_add(count as u64), u64::wrapping_add))
+}
+
+/// The xor of an image's words.
+fn check_image(image: &[u8]) -> Option<u64> {
+    Some(image.chunks(8).fold(0, |sum, it| {
+        let mut word = [0; 8];
+        word[..it.len()].copy_from_slice(it);
+        sum ^ u64::from_le_bytes(word)
+    }))
+}
+
+/// The cases of a crate.
+macro_rules! cases {
+    ($module:ident, $krate:ident) => {
+        mod $module {
+            use super::{check_image, h, hashes, repeated, summed, timed, Case};
+            use std::rc::Rc;
+            use $krate::theta::{
+                CompactThetaSketch, ThetaANotB, ThetaIntersection, ThetaSketch, ThetaSketchBuilder, ThetaSketchView,
+                ThetaUnionBuilder,
+            };
+            use $krate::tuple::{
+                CompactTupleSketch, DefaultUnionPolicy, DefaultUpdatePolicy, SummaryCombinePolicy, SummaryPolicy,
+                SummaryUpdatePolicy, TupleSketch, TupleSketchBuilder, TupleUnionBuilder,
+            };
+
+            /// A policy that adds, and isn't the crate's.
+            #[derive(Default)]
+            struct Added;
+
+            impl SummaryPolicy for Added {
+                type Summary = u64;
+
+                fn create(&self) -> u64 {
+                    0
+                }
+            }
+
+            impl SummaryUpdatePolicy<u64> for Added {
+                fn update(&self, summary: &mut u64, value: u64) {
+                    *summary += value;
+                }
+            }
+
+            impl SummaryCombinePolicy for Added {
+                fn combine(&self, summary: &mut u64, other: &u64) {
+                    *summary += *other;
+                }
+            }
+
+            fn check(it: &ThetaSketch) -> Option<u64> {
+                summed(it.theta64(), it.num_retained(), it.iter().map(|it| it.hash()))
+            }
+
+            fn check_form(it: &CompactThetaSketch) -> Option<u64> {
+                summed(it.theta64(), it.num_retained(), it.iter().map(|it| it.hash()))
+            }
+
+            fn check_sums<P: SummaryPolicy<Summary = u64>>(it: &TupleSketch<P>) -> Option<u64> {
+                summed(it.theta64(), it.num_retained(), it.iter().map(|it| it.hash().wrapping_mul(*it.summary())))
+            }
+
+            fn check_form_of_sums(it: &CompactTupleSketch<u64>) -> Option<u64> {
+                summed(it.theta64(), it.num_retained(), it.iter().map(|it| it.hash().wrapping_mul(*it.summary())))
+            }
+
+            fn sketch(lg_k: u8) -> ThetaSketch {
+                ThetaSketchBuilder::default().lg_k(lg_k).build().unwrap()
+            }
+
+            fn screening() -> ThetaSketch {
+                ThetaSketchBuilder::default().starting_theta(1).build().unwrap()
+            }
+
+            fn fed(lg_k: u8, hashes: &[u64]) -> ThetaSketch {
+                let mut sketch = sketch(lg_k);
+                hashes.iter().for_each(|it| sketch.update_hash(*it));
+                sketch
+            }
+
+            fn of_values<T: std::hash::Hash>(lg_k: u8, values: impl Iterator<Item = T>) -> ThetaSketch {
+                let mut sketch = sketch(lg_k);
+                values.for_each(|it| sketch.update(it));
+                sketch
+            }
+
+            fn summing<P: SummaryPolicy + SummaryUpdatePolicy<u64> + Default>() -> TupleSketch<P> {
+                TupleSketchBuilder::new(P::default()).lg_k(12).build().unwrap()
+            }
+
+            fn fed_sums<P>(hashes: &[u64]) -> TupleSketch<P>
+            where
+                P: SummaryPolicy + SummaryUpdatePolicy<u64> + Default,
+            {
+                let mut sketch = summing::<P>();
+                hashes.iter().for_each(|it| sketch.update_hash(*it, 1));
+                sketch
+            }
+
+            fn sums_of_keys<P>(keys: u64) -> TupleSketch<P>
+            where
+                P: SummaryPolicy + SummaryUpdatePolicy<u64> + Default,
+            {
+                let mut sketch = summing::<P>();
+                (0..keys).for_each(|it| sketch.update(it, 1));
+                sketch
+            }
+
+            fn united<'a>(sketches: impl Iterator<Item = ThetaSketchView<'a>>) -> CompactThetaSketch {
+                let mut union = ThetaUnionBuilder::default().lg_k(12).build().unwrap();
+                sketches.for_each(|it| union.update(it).unwrap());
+                union.to_sketch(true)
+            }
+
+            fn united_sums<P>(sketches: &[CompactTupleSketch<u64>]) -> CompactTupleSketch<u64>
+            where
+                P: SummaryCombinePolicy<Summary = u64> + Default,
+            {
+                let mut union = TupleUnionBuilder::new(P::default()).lg_k(12).build().unwrap();
+                sketches.iter().for_each(|it| union.update(it).unwrap());
+                union.to_sketch(true)
+            }
+
+            fn met(a: ThetaSketchView<'_>, b: ThetaSketchView<'_>) -> CompactThetaSketch {
+                let mut intersection = ThetaIntersection::default();
+                intersection.update(a).unwrap();
+                intersection.update(b).unwrap();
+                intersection.to_sketch(true).unwrap()
+            }
+
+            fn minus(a: ThetaSketchView<'_>, b: ThetaSketchView<'_>) -> CompactThetaSketch {
+                ThetaANotB::default().compute(a, b, true).unwrap()
+            }
+
+            /// The hashes of sketch number j of a union.
+            fn part(j: u64) -> Vec<u64> {
+                hashes(8192 * j, 8192 * (j + 1))
+            }
+
+            fn case_of_union(case: &str, n: u64) -> Case {
+                let sketches: Rc<Vec<ThetaSketch>> = Rc::new((0..n).map(|it| fed(12, &part(it))).collect());
+                let forms: Vec<CompactThetaSketch> = sketches.iter().map(|it| it.compact(true)).collect();
+                match case {
+                    "union" => (n, Box::new(move || timed(|| united(forms.iter().map(|it| it.as_view())), check_form))),
+                    "union_same" => {
+                        (n, Box::new(move || timed(|| united((0..n).map(|_| forms[0].as_view())), check_form)))
+                    }
+                    _ => (n, Box::new(move || timed(|| united(sketches.iter().map(|it| it.as_view())), check_form))),
+                }
+            }
+
+            fn case_of_two(case: &str, n: u64) -> Case {
+                let (a, b) = (fed(16, &hashes(0, 2 * n)), fed(16, &hashes(n, 3 * n)));
+                let items = (a.num_retained() + b.num_retained()) as u64;
+                let (x, y) = (a.compact(true), b.compact(true));
+                match case {
+                    "meet" => (items, Box::new(move || timed(|| met(x.as_view(), y.as_view()), check_form))),
+                    "meet_mut" => (items, Box::new(move || timed(|| met(a.as_view(), b.as_view()), check_form))),
+                    "minus" => (items, Box::new(move || timed(|| minus(x.as_view(), y.as_view()), check_form))),
+                    _ => (items, Box::new(move || timed(|| minus(a.as_view(), b.as_view()), check_form))),
+                }
+            }
+
+            fn case_of_form(case: &str, n: u64) -> Case {
+                let sketch = fed(16, &hashes(0, n));
+                let form = sketch.compact(true);
+                let image = form.serialize();
+                let read = CompactThetaSketch::deserialize;
+                match case {
+                    "compact" => (n, Box::new(move || timed(|| sketch.compact(true), check_form))),
+                    "compact(false)" => (n, Box::new(move || timed(|| sketch.compact(false), check_form))),
+                    "serialize" => (n, Box::new(move || timed(|| form.serialize(), |it| check_image(it)))),
+                    "deserialize" => (n, Box::new(move || timed(|| read(&image).unwrap(), check_form))),
+                    "iter" => (n, Box::new(move || timed(|| check(&sketch), |it| *it))),
+                    "iter of a form" => (n, Box::new(move || timed(|| check_form(&form), |it| *it))),
+                    _ => (n, Box::new(move || timed(|| read(&form.serialize()).unwrap(), check_form))),
+                }
+            }
+
+            fn case_of_updates(case: &str, n: u64) -> Case {
+                let list = match case {
+                    "hash12" | "hash20" | "tuple12" | "screened" => hashes(0, n),
+                    "repeat12" | "tuple_sum12" => repeated(n),
+                    _ => Vec::new(),
+                };
+                type Sums = DefaultUpdatePolicy<u64>;
+                match case {
+                    "murmur8" => (
+                        n,
+                        Box::new(move || {
+                            let mut sketch = screening();
+                            timed(|| (0..n).for_each(|it| sketch.update(it)), |()| None)
+                        }),
+                    ),
+                    "screened" => (
+                        n,
+                        Box::new(move || {
+                            let mut sketch = screening();
+                            timed(|| list.iter().for_each(|it| sketch.update_hash(*it)), |()| None)
+                        }),
+                    ),
+                    "update12" => (n, Box::new(move || timed(|| of_values(12, 0..n), check))),
+                    "hash20" => (n, Box::new(move || timed(|| fed(20, &list), check))),
+                    "tuple12" | "tuple_sum12" => (n, Box::new(move || timed(|| fed_sums::<Sums>(&list), check_sums))),
+                    "tuple keys" => (n, Box::new(move || timed(|| sums_of_keys::<Sums>(n), check_sums))),
+                    "own keys" => (n, Box::new(move || timed(|| sums_of_keys::<Added>(n), check_sums))),
+                    "texts" => {
+                        let texts: Vec<String> = (0..n).map(|it| format!("customer-{it:08}")).collect();
+                        (n, Box::new(move || timed(|| of_values(12, texts.iter().map(String::as_str)), check)))
+                    }
+                    _ => (n, Box::new(move || timed(|| fed(12, &list), check))),
+                }
+            }
+
+            /// Sketches of five keys, each built, updated, asked for its estimate and dropped.
+            fn small(n: u64) -> Case {
+                let one = |first: u64| of_values(12, first..first + 5).estimate();
+                (n, Box::new(move || timed(|| (0..n).map(|it| one(5 * it)).sum::<f64>(), |it| Some(it.to_bits()))))
+            }
+
+            fn estimates(n: u64) -> Case {
+                let sketch = fed(12, &hashes(0, 100_000));
+                let one = move || std::hint::black_box(&sketch).estimate();
+                (n, Box::new(move || timed(|| (0..n).map(|_| one()).sum::<f64>(), |it| Some(it.to_bits()))))
+            }
+
+            fn case_of_sums<P, Q>(n: u64) -> Case
+            where
+                P: SummaryPolicy<Summary = u64> + SummaryUpdatePolicy<u64> + Default,
+                Q: SummaryCombinePolicy<Summary = u64> + Default + 'static,
+            {
+                let forms: Vec<_> = (0..n).map(|it| fed_sums::<P>(&part(it)).compact(true)).collect();
+                (n, Box::new(move || timed(|| united_sums::<Q>(&forms), check_form_of_sums)))
+            }
+
+            pub fn case(case: &str, n: u64) -> Case {
+                debug_assert_eq!(h(0), 0x7110_541c_bd8e_e6d7);
+                match case {
+                    "union" | "union_same" | "union_mut" => case_of_union(case, n),
+                    "meet" | "meet_mut" | "minus" | "minus_mut" => case_of_two(case, n),
+                    "compact" | "compact(false)" | "serialize" | "deserialize" | "round" | "iter"
+                    | "iter of a form" => case_of_form(case, n),
+                    "tuple_union" => case_of_sums::<DefaultUpdatePolicy<u64>, DefaultUnionPolicy<u64>>(n),
+                    "own_union" => case_of_sums::<Added, Added>(n),
+                    "small" => small(n),
+                    "estimate" => estimates(n),
+                    _ => case_of_updates(case, n),
+                }
+            }
+        }
     };
-    let (mut least, mut least_of_ours) = (f64::MAX, f64::MAX);
+}
+cases!(of_original, original);
+cases!(of_ours, kaftanclay);
+
+const MANY: u64 = 10_000_000;
+
+/// The cases of the proved crates: a name, the case and its size.
+const PROVED: [(&str, &str, u64); 20] = [
+    ("distinct hashes, 2^12 (hash12)", "hash12", MANY),
+    ("the same, of 4096 hashes alone", "hash12", 4096),
+    ("4096 hashes again and again (repeat12)", "repeat12", MANY),
+    ("distinct hashes, 2^20 (hash20)", "hash20", MANY),
+    ("numbers, hashed (update12)", "update12", MANY),
+    ("the same, all screened (murmur8)", "murmur8", MANY),
+    ("union of 1000 compact forms", "union", 1000),
+    ("one form united with itself", "union_same", 1000),
+    ("union of sketches that take updates", "union_mut", 1000),
+    ("intersection of compact forms", "meet", 65536),
+    ("intersection of sketches", "meet_mut", 65536),
+    ("difference of compact forms", "minus", 65536),
+    ("difference of sketches", "minus_mut", 65536),
+    ("compact form, ordered", "compact", 65536),
+    ("writing", "serialize", 65536),
+    ("reading", "deserialize", 65536),
+    ("reading what was written", "round", 65536),
+    ("tuples, distinct (tuple12)", "tuple12", MANY),
+    ("tuples, summed (tuple_sum12)", "tuple_sum12", MANY),
+    ("union of 1000 compact tuples", "tuple_union", 1000),
+];
+
+/// Cases of the crates alone.
+const OTHERS: [(&str, &str, u64); 12] = [
+    ("build, five updates, `estimate`, drop", "small", 10_000),
+    ("hashes, all screened", "screened", MANY),
+    ("texts of 17 bytes", "texts", 1_000_000),
+    ("3000 texts of 17 bytes", "texts", 3000),
+    ("`estimate`", "estimate", 1000),
+    ("`iter` of a sketch", "iter", 65536),
+    ("`iter` of a compact form", "iter of a form", 65536),
+    ("compact form, unordered", "compact(false)", 65536),
+    ("tuples of keys, sums", "tuple keys", 1_000_000),
+    ("tuples of keys, own policy", "own keys", 1_000_000),
+    ("3000 tuples of keys, own policy", "own keys", 3000),
+    ("union of 100 compact tuples, own policy", "own_union", 100),
+];
+
+/// A run of a case by the program of the proved crates: how many items it had, and what it found.
+fn run_proved(program: &str, case: &str, size: u64) -> Option<(u64, Found)> {
+    let done = Command::new(program).args([case, &size.to_string(), "1"]).output().ok()?;
+    let text = String::from_utf8(done.stdout).ok()?;
+    let numbers: Vec<u64> = text.split_whitespace().skip(1).filter_map(|it| it.parse().ok()).collect();
+    match numbers[..] {
+        [_, items, _, taken, check] => Some((items, (taken, Some(check)))),
+        _ => None,
+    }
+}
+
+/// Runs all in turns, prints the least times, and returns the ratio of this crate's to the original's.
+fn compare(rounds: usize, (name, case, size): (&str, &str, u64), proved: Option<&str>) -> f64 {
+    let ((items, mut original), (ours_items, mut ours)) = (of_original::case(case, size), of_ours::case(case, size));
+    let (mut least, mut checks) = ([f64::MAX; 3], Vec::new());
+    let mut keep = |at: usize, items: u64, (taken, check): Found| {
+        least[at] = f64::min(least[at], taken as f64 / items as f64);
+        checks.extend(check);
+    };
     for _ in 0..rounds {
-        least = least.min(time(&mut original));
-        least_of_ours = least_of_ours.min(time(&mut ours));
+        keep(0, items, original());
+        keep(1, ours_items, ours());
+        if let Some((items, found)) = proved.and_then(|it| run_proved(it, case, size)) {
+            // The number of `murmur8` is that of hashes, which no sketch shows.
+            keep(2, items, (found.0, found.1.filter(|_| case != "murmur8")));
+        }
     }
-    println!("| {name} | {least:.1} | {least_of_ours:.1} | {:.2} |", least_of_ours / least);
-}
-
-/// Makes what is computed count.
-fn use_up<T>(value: T) {
-    black_box(value);
-}
-
-/// Both crates' modules in turn, as `it`.
-macro_rules! both {
-    ($rounds:expr, $name:expr, $items:expr, $it:ident => $body:expr) => {
-        compare(
-            $rounds,
-            $name,
-            $items,
-            || {
-                use o as $it;
-                $body
-            },
-            || {
-                use k as $it;
-                $body
-            },
-        )
-    };
-}
-
-/// A policy of both crates that adds, and isn't one of theirs.
-#[derive(Default)]
-struct Added;
-
-macro_rules! policy {
-    ($($it:ident)*) => {$(
-        impl $it::tuple::SummaryPolicy for Added {
-            type Summary = u64;
-
-            fn create(&self) -> u64 {
-                0
-            }
-        }
-
-        impl $it::tuple::SummaryUpdatePolicy<u64> for Added {
-            fn update(&self, summary: &mut u64, value: u64) {
-                *summary += value;
-            }
-        }
-
-        impl $it::tuple::SummaryCombinePolicy for Added {
-            fn combine(&self, summary: &mut u64, other: &u64) {
-                *summary += *other;
-            }
-        }
-    )*};
-}
-policy!(o k);
-
-/// The numbers in a range, as keys of a theta sketch of each crate.
-macro_rules! theta {
-    ($it:ident, $lg_k:expr, $keys:expr) => {{
-        let mut sketch = $it::theta::ThetaSketchBuilder::default().lg_k($lg_k).build().unwrap();
-        for key in $keys {
-            sketch.update(key);
-        }
-        sketch
-    }};
-}
-
-/// Likewise of a tuple sketch, with a value of 1.
-macro_rules! tuple {
-    ($it:ident, $policy:expr, $keys:expr) => {{
-        let mut sketch = $it::tuple::TupleSketchBuilder::new($policy).build().unwrap();
-        for key in $keys {
-            sketch.update(key, 1_u64);
-        }
-        sketch
-    }};
+    let [original, ours, proved] = least;
+    let border = if proved < f64::MAX { format!("{proved:.2} | {:.2}", ours - proved) } else { " | ".to_string() };
+    let same = if checks.windows(2).all(|it| it[0] == it[1]) { "same" } else { "DIFFERENT" };
+    println!("| {name} | {original:.2} | {ours:.2} | {:.2} | {border} | {same} |", ours / original);
+    ours / original
 }
 
 fn main() {
-    let rounds: usize = std::env::args().nth(1).map_or(15, |it| it.parse().expect("ROUNDS is a number"));
-    println!("| case | original | here | ratio |\n|---|---|---|---|");
-    for (lg_k, keys) in [(12, 3000_u64), (12, 1_000_000), (20, 1_000_000)] {
-        let name = format!("`update(u64)`, `lg_k` {lg_k}, {keys} keys");
-        both!(rounds, &name, keys, it => {
-            black_box(theta!(it, lg_k, 0..keys));
-        });
+    const KEPT: (&str, &str) =
+        ("GLIBC_TUNABLES", "glibc.malloc.trim_threshold=1073741824:glibc.malloc.mmap_threshold=1073741824");
+    // No run pays for fresh pages by the mood of malloc: none are given back between runs.
+    if std::env::var_os(KEPT.0).is_none() {
+        let program = std::env::current_exe().expect("the program has a name");
+        let failed = Command::new(program).args(std::env::args_os().skip(1)).env(KEPT.0, KEPT.1).exec();
+        panic!("speed: {failed}");
     }
-    let texts: Vec<String> = (0..1_000_000).map(|it| format!("customer-{it:08}")).collect();
-    for keys in [3000_usize, 1_000_000] {
-        let name = format!("`update(&str)` of 17 bytes, `lg_k` 12, {keys} keys");
-        both!(rounds, &name, keys as u64, it => {
-            black_box(theta!(it, 12, texts[..keys].iter().map(String::as_str)));
-        });
+    let rounds: usize = std::env::args().nth(1).map_or(7, |it| it.parse().expect("ROUNDS is a number"));
+    let word = std::env::args().nth(2).unwrap_or_default();
+    let proved = std::env::var("SKETCH_BENCH").ok();
+    println!("| case | original | here | ratio | proved | border | answers |\n|---|---|---|---|---|---|---|");
+    let chosen = |it: &&(&str, &str, u64)| it.0.contains(&word);
+    let ratios: Vec<f64> =
+        PROVED.iter().filter(chosen).map(|it| compare(rounds, *it, proved.as_deref()).ln()).collect();
+    for row in OTHERS.iter().filter(chosen) {
+        // Short cases run more often.
+        compare(if row.2 < 100_000 { 4 * rounds } else { rounds }, *row, None);
     }
-    both!(rounds, "five updates: build, update, `estimate`, drop; each sketch", 1000, it => {
-        for first in 0..1000_u64 {
-            black_box(theta!(it, 12, 5 * first..5 * first + 5).estimate());
-        }
-    });
-    for keys in [3000_u64, 1_000_000] {
-        let name = format!("tuple `update(u64, u64)`, sums, {keys} keys");
-        both!(rounds, &name, keys, it => {
-            black_box(tuple!(it, it::tuple::DefaultUpdatePolicy::<u64>::default(), 0..keys));
-        });
-        let name = format!("tuple `update(u64, u64)`, own policy, {keys} keys");
-        both!(rounds, &name, keys, it => {
-            black_box(tuple!(it, Added, 0..keys));
-        });
-    }
-    let (a, b) = (theta!(o, 12, 0..100_000_u64), theta!(k, 12, 0..100_000_u64));
-    let (a2, b2) = (theta!(o, 12, 50_000..150_000_u64), theta!(k, 12, 50_000..150_000_u64));
-    let hashes = a.num_retained() as u64;
-    let rounds = 4 * rounds;
-    compare(
-        rounds,
-        "`estimate()` of a sketch",
-        1000,
-        || (0..1000).for_each(|_| use_up(black_box(&a).estimate())),
-        || (0..1000).for_each(|_| use_up(black_box(&b).estimate())),
+    println!(
+        "geometric mean of the first {}: {:.3}",
+        ratios.len(),
+        (ratios.iter().sum::<f64>() / ratios.len() as f64).exp()
     );
-    let sum = |hash: u64, total: u64| total.wrapping_add(hash);
-    compare(
-        rounds,
-        "`iter()` of a sketch, each hash",
-        hashes,
-        || use_up(a.iter().fold(0, |total, it| sum(it.hash(), total))),
-        || use_up(b.iter().fold(0, |total, it| sum(it.hash(), total))),
-    );
-    for ordered in [true, false] {
-        let name = format!("`compact({ordered})`, each hash");
-        compare(rounds, &name, hashes, || use_up(a.compact(ordered)), || use_up(b.compact(ordered)));
-    }
-    let (ca, cb, ca2, cb2) = (a.compact(true), b.compact(true), a2.compact(true), b2.compact(true));
-    compare(rounds, "`serialize()`, each hash", hashes, || use_up(ca.serialize()), || use_up(cb.serialize()));
-    let image = ca.serialize();
-    both!(rounds, "`deserialize()`, each hash", hashes, it => {
-        black_box(it::theta::CompactThetaSketch::deserialize(&image).unwrap());
-    });
-    both!(rounds, "`deserialize()` and `iter()`, each hash", hashes, it => {
-        let read = it::theta::CompactThetaSketch::deserialize(&image).unwrap();
-        black_box(read.iter().fold(0, |total, it| sum(it.hash(), total)));
-    });
-    /// One of the operators over two sketches of each crate.
-    macro_rules! operators {
-        ($kind:literal, $a:ident, $a2:ident, $b:ident, $b2:ident) => {
-            macro_rules! union {
-                ($it:ident, $x:ident, $y:ident) => {{
-                    let mut union = $it::theta::ThetaUnionBuilder::default().build().unwrap();
-                    union.update(&$x).unwrap();
-                    union.update(&$y).unwrap();
-                    black_box(union.to_sketch(true));
-                }};
-            }
-            macro_rules! intersection {
-                ($it:ident, $x:ident, $y:ident) => {{
-                    let mut intersection = $it::theta::ThetaIntersection::default();
-                    intersection.update(&$x).unwrap();
-                    intersection.update(&$y).unwrap();
-                    black_box(intersection.to_sketch(true));
-                }};
-            }
-            let items = 2 * hashes;
-            compare(
-                rounds,
-                concat!("union of two ", $kind, ", each hash"),
-                items,
-                || union!(o, $a, $a2),
-                || union!(k, $b, $b2),
-            );
-            compare(
-                rounds,
-                concat!("intersection of two ", $kind, ", each hash"),
-                items,
-                || intersection!(o, $a, $a2),
-                || intersection!(k, $b, $b2),
-            );
-            compare(
-                rounds,
-                concat!("difference of two ", $kind, ", each hash"),
-                items,
-                || use_up(o::theta::ThetaANotB::default().compute(&$a, &$a2, true).unwrap()),
-                || use_up(k::theta::ThetaANotB::default().compute(&$b, &$b2, true).unwrap()),
-            );
-        };
-    }
-    operators!("ordered forms", ca, ca2, cb, cb2);
-    operators!("sketches", a, a2, b, b2);
-    let policy = || (o::tuple::DefaultUpdatePolicy::<u64>::default(), k::tuple::DefaultUpdatePolicy::<u64>::default());
-    let (sa, sb) = (tuple!(o, policy().0, 0..100_000_u64), tuple!(k, policy().1, 0..100_000_u64));
-    let (sa2, sb2) = (tuple!(o, policy().0, 50_000..150_000_u64), tuple!(k, policy().1, 50_000..150_000_u64));
-    let (sa, sb, sa2, sb2) = (sa.compact(true), sb.compact(true), sa2.compact(true), sb2.compact(true));
-    macro_rules! tuple_unions {
-        ($name:literal, $it:ident => $policy:expr) => {
-            macro_rules! union {
-                ($krate:ident, $x:ident, $y:ident) => {{
-                    use $krate as $it;
-                    let mut union = $krate::tuple::TupleUnionBuilder::new($policy).build().unwrap();
-                    union.update(&$x).unwrap();
-                    union.update(&$y).unwrap();
-                    black_box(union.to_sketch(true));
-                }};
-            }
-            compare(rounds, $name, 2 * hashes, || union!(o, sa, sa2), || union!(k, sb, sb2));
-        };
-    }
-    tuple_unions!("union of two forms of sums, each entry", it => it::tuple::DefaultUnionPolicy::<u64>::default());
-    tuple_unions!("the same, own policy, each entry", it => {
-        let _ = it::tuple::TupleANotB::default();
-        Added
-    });
 }

@@ -1,20 +1,19 @@
 //! The calls of the C library, and the only module with `unsafe`: an owner for each kind of object, and three looks at
 //! the type of a value.
 //!
-//! The library lets one call at a time use a handle, a call that only reads too (`kaftanclay.h`, "Threads"). So what
-//! reads an object by `&` takes the object's lock for the call, and what changes it by `&mut` needs none. Once the
-//! library allows two readers, [`Object::read`] loses the lock, and nothing else changes.
+//! Calls that take a handle as const may use it at the same time; while a call runs that takes it otherwise, no other
+//! uses it (`kaftanclay.h`, "Threads"). That is what Rust says of `&` and `&mut`: a call that only reads an object
+//! takes it by `&` and passes its handle as const, and one that changes it takes it by `&mut`. There is no lock.
 
 use crate::error::{check, Error};
+use crate::state::MAX_THETA;
 use std::any::TypeId;
 use std::ffi::c_void;
 use std::marker::PhantomData;
 use std::mem::size_of;
 use std::ptr;
-use std::sync::{Mutex, PoisonError};
 
 type Status = u32;
-const TOO_SMALL: Status = 6;
 
 /// A handle of C, of any kind: a struct with one pointer.
 #[repr(C)]
@@ -25,6 +24,10 @@ pub(crate) struct Raw {
 // SAFETY: different handles may be used by any threads at once, and an object by another thread than the one that made
 // it (docs/use/C.md, "Threads and forks"; the proved types are `Send`, c_handles/src/threads.rt).
 unsafe impl Send for Raw {}
+
+// SAFETY: a shared handle is passed only to calls that take it as const, and the library allows these at the same time
+// (`kaftanclay.h`, "Threads").
+unsafe impl Sync for Raw {}
 
 /// The state of a sketch (`kc_state`).
 #[repr(C)]
@@ -55,99 +58,120 @@ const _: () =
 type Free = unsafe extern "C" fn(*mut Raw) -> Status;
 type Change = unsafe extern "C" fn(*mut Raw) -> Status;
 type NewWith = unsafe extern "C" fn(*mut Raw, u32, u64, u32, u64) -> Status;
-type NewUnion = unsafe extern "C" fn(*mut Raw, u32, u64) -> Status;
 type NewIntersection = unsafe extern "C" fn(*mut Raw, u64) -> Status;
 type WriteState = unsafe extern "C" fn(*const Raw, *mut State) -> Status;
 type WriteImage = unsafe extern "C" fn(*const Raw, *mut u8, usize, *mut u64) -> Status;
-type Make = unsafe extern "C" fn(*const Raw, *mut Raw) -> Status;
+type WriteHashes = unsafe extern "C" fn(*const Raw, *mut u64, usize, *mut u64) -> Status;
+type WriteEntries = unsafe extern "C" fn(*const Raw, *mut u64, *mut u64, usize, *mut u64) -> Status;
+type WriteNumber = unsafe extern "C" fn(*const Raw, *mut u32) -> Status;
+type WriteSize = unsafe extern "C" fn(*const Raw, *mut u64) -> Status;
+type Make = unsafe extern "C" fn(*const Raw, u32, *mut Raw) -> Status;
 type Read = unsafe extern "C" fn(*mut Raw, *const u8, usize, u64) -> Status;
 type Add = unsafe extern "C" fn(*mut Raw, *const Raw) -> Status;
-type AddImage = unsafe extern "C" fn(*mut Raw, *const u8, usize) -> Status;
-type Difference = unsafe extern "C" fn(*const Raw, *const Raw, u64, *mut Raw) -> Status;
+type Difference = unsafe extern "C" fn(*const Raw, *const Raw, u64, u32, *mut Raw) -> Status;
+type OrderedDifference = unsafe extern "C" fn(*const Raw, *const Raw, u64, *mut Raw) -> Status;
 
 // As include/kaftanclay.h declares them; a handle of any kind is a `Raw`.
 extern "C" {
     fn kc_theta_new_with(sketch: *mut Raw, lg_k: u32, seed: u64, resize_factor: u32, starting_theta: u64) -> Status;
     fn kc_theta_free(sketch: *mut Raw) -> Status;
     fn kc_theta_update_hash(sketch: *mut Raw, hash: u64) -> Status;
-    fn kc_theta_update_hashes(sketch: *mut Raw, hashes: *const u64, count: usize) -> Status;
+    fn kc_theta_insert_hash(sketch: *mut Raw, hash: u64, out: *mut State) -> Status;
     fn kc_theta_update_bytes(sketch: *mut Raw, bytes: *const u8, count: usize) -> Status;
+    fn kc_theta_update_hashes(sketch: *mut Raw, hashes: *const u64, count: usize) -> Status;
     fn kc_theta_trim(sketch: *mut Raw) -> Status;
     fn kc_theta_reset(sketch: *mut Raw) -> Status;
     fn kc_theta_state(sketch: *const Raw, out: *mut State) -> Status;
-    fn kc_theta_image(sketch: *const Raw, out: *mut u8, room: usize, length: *mut u64) -> Status;
-    fn kc_theta_compact(sketch: *const Raw, out: *mut Raw) -> Status;
+    fn kc_theta_hashes(sketch: *const Raw, hashes: *mut u64, room: usize, count: *mut u64) -> Status;
+    fn kc_theta_compact_with(sketch: *const Raw, ordered: u32, out: *mut Raw) -> Status;
+    fn kc_theta_difference(first: *const Raw, second: *const Raw, seed: u64, out: *mut Raw) -> Status;
+    fn kc_theta_estimated_size(sketch: *const Raw, bytes: *mut u64) -> Status;
     fn kc_compact_read(sketch: *mut Raw, image: *const u8, count: usize, seed: u64) -> Status;
     fn kc_compact_free(sketch: *mut Raw) -> Status;
     fn kc_compact_state(sketch: *const Raw, out: *mut State) -> Status;
     fn kc_compact_image(sketch: *const Raw, out: *mut u8, room: usize, length: *mut u64) -> Status;
-    fn kc_compact_clone(sketch: *const Raw, out: *mut Raw) -> Status;
-    fn kc_union_new(u: *mut Raw, lg_k: u32, seed: u64) -> Status;
+    fn kc_compact_hashes(sketch: *const Raw, hashes: *mut u64, room: usize, count: *mut u64) -> Status;
+    fn kc_compact_seed_hash(sketch: *const Raw, out: *mut u32) -> Status;
+    fn kc_compact_is_ordered(sketch: *const Raw, out: *mut u32) -> Status;
+    fn kc_compact_estimated_size(sketch: *const Raw, bytes: *mut u64) -> Status;
+    fn kc_union_new_with(u: *mut Raw, lg_k: u32, seed: u64, resize_factor: u32, starting_theta: u64) -> Status;
     fn kc_union_free(u: *mut Raw) -> Status;
     fn kc_union_add(u: *mut Raw, sketch: *const Raw) -> Status;
     fn kc_union_add_compact(u: *mut Raw, sketch: *const Raw) -> Status;
-    fn kc_union_add_image(u: *mut Raw, image: *const u8, count: usize) -> Status;
-    fn kc_union_result(u: *const Raw, out: *mut Raw) -> Status;
     fn kc_union_reset(u: *mut Raw) -> Status;
+    fn kc_union_result_with(u: *const Raw, ordered: u32, out: *mut Raw) -> Status;
+    fn kc_union_estimated_size(u: *const Raw, bytes: *mut u64) -> Status;
     fn kc_intersection_new(intersection: *mut Raw, seed: u64) -> Status;
     fn kc_intersection_free(intersection: *mut Raw) -> Status;
     fn kc_intersection_add(intersection: *mut Raw, sketch: *const Raw) -> Status;
     fn kc_intersection_add_compact(intersection: *mut Raw, sketch: *const Raw) -> Status;
-    fn kc_intersection_add_image(intersection: *mut Raw, image: *const u8, count: usize) -> Status;
-    fn kc_intersection_result(intersection: *const Raw, out: *mut Raw) -> Status;
-    fn kc_difference(first: *const Raw, second: *const Raw, seed: u64, out: *mut Raw) -> Status;
-    fn kc_image_state(image: *const u8, count: usize, seed: u64, out: *mut State) -> Status;
-    fn kc_images_difference(
-        first: *const u8,
-        first_count: usize,
-        second: *const u8,
-        second_count: usize,
-        seed: u64,
-        out: *mut u8,
-        room: usize,
-        length: *mut u64,
-    ) -> Status;
+    fn kc_intersection_result_with(intersection: *const Raw, ordered: u32, out: *mut Raw) -> Status;
+    fn kc_intersection_estimated_size(intersection: *const Raw, bytes: *mut u64) -> Status;
+    fn kc_difference_with(first: *const Raw, second: *const Raw, seed: u64, ordered: u32, out: *mut Raw) -> Status;
     fn kc_sums_new_with(sums: *mut Raw, lg_k: u32, seed: u64, resize_factor: u32, starting_theta: u64) -> Status;
     fn kc_sums_free(sums: *mut Raw) -> Status;
+    fn kc_sums_add_hash(sums: *mut Raw, hash: u64, value: u64) -> Status;
     fn kc_sums_add_bytes(sums: *mut Raw, bytes: *const u8, count: usize, value: u64) -> Status;
     fn kc_sums_trim(sums: *mut Raw) -> Status;
     fn kc_sums_reset(sums: *mut Raw) -> Status;
     fn kc_sums_state(sums: *const Raw, out: *mut State) -> Status;
-    fn kc_sums_image(sums: *const Raw, out: *mut u8, room: usize, length: *mut u64) -> Status;
-    fn kc_sums_compact(sums: *const Raw, out: *mut Raw) -> Status;
+    fn kc_sums_entries(sums: *const Raw, hashes: *mut u64, values: *mut u64, room: usize, count: *mut u64) -> Status;
+    fn kc_sums_compact_with(sums: *const Raw, ordered: u32, out: *mut Raw) -> Status;
+    fn kc_sums_updatable_difference(first: *const Raw, second: *const Raw, seed: u64, out: *mut Raw) -> Status;
+    fn kc_sums_estimated_size(sums: *const Raw, bytes: *mut u64) -> Status;
     fn kc_compact_sums_read(sums: *mut Raw, image: *const u8, count: usize, seed: u64) -> Status;
     fn kc_compact_sums_free(sums: *mut Raw) -> Status;
     fn kc_compact_sums_state(sums: *const Raw, out: *mut State) -> Status;
     fn kc_compact_sums_image(sums: *const Raw, out: *mut u8, room: usize, length: *mut u64) -> Status;
-    fn kc_sums_union_new(u: *mut Raw, lg_k: u32, seed: u64) -> Status;
+    fn kc_compact_sums_entries(
+        sums: *const Raw,
+        hashes: *mut u64,
+        values: *mut u64,
+        room: usize,
+        count: *mut u64,
+    ) -> Status;
+    fn kc_compact_sums_seed_hash(sums: *const Raw, out: *mut u32) -> Status;
+    fn kc_compact_sums_is_ordered(sums: *const Raw, out: *mut u32) -> Status;
+    fn kc_compact_sums_estimated_size(sums: *const Raw, bytes: *mut u64) -> Status;
+    fn kc_sums_union_new_with(u: *mut Raw, lg_k: u32, seed: u64, resize_factor: u32, starting_theta: u64) -> Status;
     fn kc_sums_union_free(u: *mut Raw) -> Status;
     fn kc_sums_union_add(u: *mut Raw, sketch: *const Raw) -> Status;
     fn kc_sums_union_add_compact(u: *mut Raw, sketch: *const Raw) -> Status;
-    fn kc_sums_union_add_image(u: *mut Raw, image: *const u8, count: usize) -> Status;
-    fn kc_sums_union_result(u: *const Raw, out: *mut Raw) -> Status;
     fn kc_sums_union_reset(u: *mut Raw) -> Status;
+    fn kc_sums_union_result_with(u: *const Raw, ordered: u32, out: *mut Raw) -> Status;
+    fn kc_sums_union_estimated_size(u: *const Raw, bytes: *mut u64) -> Status;
     fn kc_sums_intersection_new(intersection: *mut Raw, seed: u64) -> Status;
     fn kc_sums_intersection_free(intersection: *mut Raw) -> Status;
     fn kc_sums_intersection_add(intersection: *mut Raw, sketch: *const Raw) -> Status;
     fn kc_sums_intersection_add_compact(intersection: *mut Raw, sketch: *const Raw) -> Status;
-    fn kc_sums_intersection_add_image(intersection: *mut Raw, image: *const u8, count: usize) -> Status;
-    fn kc_sums_intersection_result(intersection: *const Raw, out: *mut Raw) -> Status;
-    fn kc_sums_difference(first: *const Raw, second: *const Raw, seed: u64, out: *mut Raw) -> Status;
+    fn kc_sums_intersection_result_with(intersection: *const Raw, ordered: u32, out: *mut Raw) -> Status;
+    fn kc_sums_intersection_estimated_size(intersection: *const Raw, bytes: *mut u64) -> Status;
+    fn kc_sums_difference_with(first: *const Raw, second: *const Raw, seed: u64, ordered: u32, out: *mut Raw)
+        -> Status;
     fn kc_hash_bytes(seed: u64, bytes: *const u8, count: usize, hash: *mut u64) -> Status;
+    fn kc_seed_hash(seed: u64, out: *mut u32) -> Status;
     fn kc_count_bounds(retained: u64, theta: u64, deviations: u32, lower: *mut Wide, upper: *mut Wide) -> Status;
 }
 
 /// A kind of object, with its calls. Each constant is a call on handles of this kind.
 pub(crate) trait Kind {
     const FREE: Free;
+    const SIZE: WriteSize;
 }
 
-/// A kind of sketch: it has a state and an image.
+/// A kind of sketch: it has a state.
 pub(crate) trait Sketch: Kind {
     const STATE: WriteState;
-    const IMAGE: WriteImage;
-    /// How many bytes of the image an entry has.
-    const WIDTH: usize;
+}
+
+/// A kind of sketch without summaries.
+pub(crate) trait Hashed: Sketch {
+    const HASHES: WriteHashes;
+}
+
+/// A kind of sketch of sums.
+pub(crate) trait Summed: Sketch {
+    const ENTRIES: WriteEntries;
 }
 
 /// A kind of sketch that takes updates.
@@ -157,11 +181,18 @@ pub(crate) trait Updated: Sketch {
     const TRIM: Change;
     const RESET: Change;
     const COMPACT: Make;
+    const DIFFERENCE: OrderedDifference;
 }
 
-/// A kind of compact sketch.
+/// A kind of compact sketch, which has an image.
 pub(crate) trait Form: Sketch {
+    type Union: Unites<Form = Self>;
     const READ: Read;
+    const IMAGE: WriteImage;
+    /// How many bytes of the image an entry has.
+    const WIDTH: usize;
+    const SEED_HASH: WriteNumber;
+    const IS_ORDERED: WriteNumber;
     const DIFFERENCE: Difference;
 }
 
@@ -171,13 +202,12 @@ pub(crate) trait Operator: Kind {
     type Form: Form;
     const ADD: Add;
     const ADD_FORM: Add;
-    const ADD_IMAGE: AddImage;
     const RESULT: Make;
 }
 
 /// A kind of union.
 pub(crate) trait Unites: Operator {
-    const NEW: NewUnion;
+    const NEW: NewWith;
     const RESET: Change;
 }
 
@@ -187,39 +217,50 @@ pub(crate) trait Intersects: Operator {
 }
 
 macro_rules! kinds {
-    ($($name:ident as $kind:ident { $free:ident })*) => {$(
+    ($($name:ident as $kind:ident { $free:ident, $size:ident })*) => {$(
         pub(crate) enum $kind {}
         pub(crate) type $name = Object<$kind>;
         impl Kind for $kind {
             const FREE: Free = $free;
+            const SIZE: WriteSize = $size;
         }
     )*};
 }
 kinds! {
-    Theta as ThetaKind { kc_theta_free }
-    Compact as CompactKind { kc_compact_free }
-    Union as UnionKind { kc_union_free }
-    Intersection as IntersectionKind { kc_intersection_free }
-    Sums as SumsKind { kc_sums_free }
-    CompactSums as CompactSumsKind { kc_compact_sums_free }
-    SumsUnion as SumsUnionKind { kc_sums_union_free }
-    SumsIntersection as SumsIntersectionKind { kc_sums_intersection_free }
+    Theta as ThetaKind { kc_theta_free, kc_theta_estimated_size }
+    Compact as CompactKind { kc_compact_free, kc_compact_estimated_size }
+    Union as UnionKind { kc_union_free, kc_union_estimated_size }
+    Intersection as IntersectionKind { kc_intersection_free, kc_intersection_estimated_size }
+    Sums as SumsKind { kc_sums_free, kc_sums_estimated_size }
+    CompactSums as CompactSumsKind { kc_compact_sums_free, kc_compact_sums_estimated_size }
+    SumsUnion as SumsUnionKind { kc_sums_union_free, kc_sums_union_estimated_size }
+    SumsIntersection as SumsIntersectionKind { kc_sums_intersection_free, kc_sums_intersection_estimated_size }
 }
 
-macro_rules! sketches {
-    ($($kind:ident { $state:ident, $image:ident, $width:literal })*) => {$(
-        impl Sketch for $kind {
-            const STATE: WriteState = $state;
-            const IMAGE: WriteImage = $image;
-            const WIDTH: usize = $width;
-        }
-    )*};
+impl Sketch for ThetaKind {
+    const STATE: WriteState = kc_theta_state;
 }
-sketches! {
-    ThetaKind { kc_theta_state, kc_theta_image, 8 }
-    CompactKind { kc_compact_state, kc_compact_image, 8 }
-    SumsKind { kc_sums_state, kc_sums_image, 16 }
-    CompactSumsKind { kc_compact_sums_state, kc_compact_sums_image, 16 }
+impl Sketch for CompactKind {
+    const STATE: WriteState = kc_compact_state;
+}
+impl Sketch for SumsKind {
+    const STATE: WriteState = kc_sums_state;
+}
+impl Sketch for CompactSumsKind {
+    const STATE: WriteState = kc_compact_sums_state;
+}
+
+impl Hashed for ThetaKind {
+    const HASHES: WriteHashes = kc_theta_hashes;
+}
+impl Hashed for CompactKind {
+    const HASHES: WriteHashes = kc_compact_hashes;
+}
+impl Summed for SumsKind {
+    const ENTRIES: WriteEntries = kc_sums_entries;
+}
+impl Summed for CompactSumsKind {
+    const ENTRIES: WriteEntries = kc_compact_sums_entries;
 }
 
 impl Updated for ThetaKind {
@@ -227,55 +268,65 @@ impl Updated for ThetaKind {
     const NEW: NewWith = kc_theta_new_with;
     const TRIM: Change = kc_theta_trim;
     const RESET: Change = kc_theta_reset;
-    const COMPACT: Make = kc_theta_compact;
+    const COMPACT: Make = kc_theta_compact_with;
+    const DIFFERENCE: OrderedDifference = kc_theta_difference;
 }
 impl Updated for SumsKind {
     type Form = CompactSumsKind;
     const NEW: NewWith = kc_sums_new_with;
     const TRIM: Change = kc_sums_trim;
     const RESET: Change = kc_sums_reset;
-    const COMPACT: Make = kc_sums_compact;
+    const COMPACT: Make = kc_sums_compact_with;
+    const DIFFERENCE: OrderedDifference = kc_sums_updatable_difference;
 }
 impl Form for CompactKind {
+    type Union = UnionKind;
     const READ: Read = kc_compact_read;
-    const DIFFERENCE: Difference = kc_difference;
+    const IMAGE: WriteImage = kc_compact_image;
+    const WIDTH: usize = 8;
+    const SEED_HASH: WriteNumber = kc_compact_seed_hash;
+    const IS_ORDERED: WriteNumber = kc_compact_is_ordered;
+    const DIFFERENCE: Difference = kc_difference_with;
 }
 impl Form for CompactSumsKind {
+    type Union = SumsUnionKind;
     const READ: Read = kc_compact_sums_read;
-    const DIFFERENCE: Difference = kc_sums_difference;
+    const IMAGE: WriteImage = kc_compact_sums_image;
+    const WIDTH: usize = 16;
+    const SEED_HASH: WriteNumber = kc_compact_sums_seed_hash;
+    const IS_ORDERED: WriteNumber = kc_compact_sums_is_ordered;
+    const DIFFERENCE: Difference = kc_sums_difference_with;
 }
 
 macro_rules! operators {
-    ($($kind:ident ($leaf:ident, $form:ident) { $add:ident, $add_form:ident, $add_image:ident, $result:ident })*) => {$(
+    ($($kind:ident ($leaf:ident, $form:ident) { $add:ident, $add_form:ident, $result:ident })*) => {$(
         impl Operator for $kind {
             type Leaf = $leaf;
             type Form = $form;
             const ADD: Add = $add;
             const ADD_FORM: Add = $add_form;
-            const ADD_IMAGE: AddImage = $add_image;
             const RESULT: Make = $result;
         }
     )*};
 }
 operators! {
-    UnionKind (ThetaKind, CompactKind) { kc_union_add, kc_union_add_compact, kc_union_add_image, kc_union_result }
+    UnionKind (ThetaKind, CompactKind) { kc_union_add, kc_union_add_compact, kc_union_result_with }
     IntersectionKind (ThetaKind, CompactKind) {
-        kc_intersection_add, kc_intersection_add_compact, kc_intersection_add_image, kc_intersection_result
+        kc_intersection_add, kc_intersection_add_compact, kc_intersection_result_with
     }
     SumsUnionKind (SumsKind, CompactSumsKind) {
-        kc_sums_union_add, kc_sums_union_add_compact, kc_sums_union_add_image, kc_sums_union_result
+        kc_sums_union_add, kc_sums_union_add_compact, kc_sums_union_result_with
     }
     SumsIntersectionKind (SumsKind, CompactSumsKind) {
-        kc_sums_intersection_add, kc_sums_intersection_add_compact, kc_sums_intersection_add_image,
-        kc_sums_intersection_result
+        kc_sums_intersection_add, kc_sums_intersection_add_compact, kc_sums_intersection_result_with
     }
 }
 impl Unites for UnionKind {
-    const NEW: NewUnion = kc_union_new;
+    const NEW: NewWith = kc_union_new_with;
     const RESET: Change = kc_union_reset;
 }
 impl Unites for SumsUnionKind {
-    const NEW: NewUnion = kc_sums_union_new;
+    const NEW: NewWith = kc_sums_union_new_with;
     const RESET: Change = kc_sums_union_reset;
 }
 impl Intersects for IntersectionKind {
@@ -287,7 +338,7 @@ impl Intersects for SumsIntersectionKind {
 
 /// An object of the C library, which its owner alone frees.
 pub(crate) struct Object<K: Kind> {
-    raw: Mutex<Raw>,
+    raw: Raw,
     kind: PhantomData<fn() -> K>,
 }
 
@@ -296,20 +347,28 @@ impl<K: Kind> Object<K> {
     fn made(fill: impl FnOnce(*mut Raw) -> Status) -> Result<Self, Error> {
         let mut raw = Raw { object: ptr::null_mut() };
         check(fill(&mut raw))?;
-        Ok(Self { raw: Mutex::new(raw), kind: PhantomData })
+        Ok(Self { raw, kind: PhantomData })
     }
 
     /// The handle, for a call that changes the object.
     #[inline]
     fn handle(&mut self) -> *mut Raw {
-        self.raw.get_mut().unwrap_or_else(PoisonError::into_inner)
+        &mut self.raw
     }
 
-    /// Runs a call that only reads, while no other call uses the object.
+    /// The handle, for a call that only reads the object.
     #[inline]
-    fn read<R>(&self, call: impl FnOnce(*const Raw) -> R) -> R {
-        let raw = self.raw.lock().unwrap_or_else(PoisonError::into_inner);
-        call(&*raw)
+    fn reader(&self) -> *const Raw {
+        &self.raw
+    }
+
+    /// How many bytes of memory its slots or entries take.
+    pub(crate) fn estimated_size(&self) -> usize {
+        let mut bytes = 0;
+        // SAFETY: the handle is of this kind and only read; the number is this function's own. The call can't be
+        // refused.
+        unsafe { K::SIZE(self.reader(), &mut bytes) };
+        bytes as usize
     }
 }
 
@@ -320,47 +379,51 @@ impl<K: Kind> Drop for Object<K> {
     }
 }
 
-/// Runs a call that writes bytes, of which there are perhaps `room`, until its buffer is large enough.
-fn bytes_of(mut room: usize, mut call: impl FnMut(*mut u8, usize, *mut u64) -> Status) -> Result<Vec<u8>, Error> {
-    loop {
-        let mut bytes = Vec::<u8>::new();
-        bytes.try_reserve_exact(room).map_err(|_| Error::out_of_memory())?;
-        let mut length = 0;
-        match call(bytes.as_mut_ptr(), room, &mut length) {
-            TOO_SMALL if length > room as u64 => room = length as usize,
-            status => {
-                check(status)?;
-                // SAFETY: the call has written the first `length` bytes, at most the vector's capacity `room`.
-                unsafe { bytes.set_len(length as usize) };
-                return Ok(bytes);
-            }
-        }
-    }
+/// An empty vector with room for so many items.
+pub(crate) fn vector<T>(room: usize) -> Result<Vec<T>, Error> {
+    let mut items = Vec::new();
+    items.try_reserve_exact(room).map_err(|_| Error::out_of_memory())?;
+    Ok(items)
 }
 
 impl<K: Sketch> Object<K> {
-    /// The state, with the object's lock.
     #[inline]
     pub(crate) fn state(&self) -> State {
         let mut state = State::default();
-        // SAFETY: the handle is of this kind and locked; the state is this function's own. The call can't be refused.
-        self.read(|at| unsafe { K::STATE(at, &mut state) });
+        // SAFETY: the handle is of this kind and only read; the state is this function's own. The call can't be
+        // refused.
+        unsafe { K::STATE(self.reader(), &mut state) };
         state
     }
+}
 
-    /// The state, without the lock.
-    #[inline]
-    pub(crate) fn state_of_own(&mut self) -> State {
-        let mut state = State::default();
-        // SAFETY: the handle is of this kind, and `&mut` excludes other calls. The call can't be refused.
-        unsafe { K::STATE(self.handle(), &mut state) };
-        state
+impl<K: Hashed> Object<K> {
+    pub(crate) fn hashes(&self) -> Result<Vec<u64>, Error> {
+        let room = self.state().retained as usize;
+        let mut hashes = vector::<u64>(room)?;
+        let mut count = 0;
+        // SAFETY: the handle is of this kind and only read; the vector has room for so many numbers.
+        check(unsafe { K::HASHES(self.reader(), hashes.as_mut_ptr(), room, &mut count) })?;
+        // SAFETY: the call has written so many numbers, at most `room`.
+        unsafe { hashes.set_len(count as usize) };
+        Ok(hashes)
     }
+}
 
-    pub(crate) fn image(&self) -> Result<Vec<u8>, Error> {
-        let room = 24 + K::WIDTH * self.state().retained as usize;
-        // SAFETY: the handle is of this kind and locked; `bytes_of` passes a buffer of `room` bytes of its own.
-        self.read(|at| bytes_of(room, |out, room, length| unsafe { K::IMAGE(at, out, room, length) }))
+impl<K: Summed> Object<K> {
+    /// The hashes, and the sum of each.
+    pub(crate) fn entries(&self) -> Result<(Vec<u64>, Vec<u64>), Error> {
+        let room = self.state().retained as usize;
+        let (mut hashes, mut sums) = (vector::<u64>(room)?, vector::<u64>(room)?);
+        let mut count = 0;
+        // SAFETY: the handle is of this kind and only read; both vectors have room for so many numbers.
+        check(unsafe { K::ENTRIES(self.reader(), hashes.as_mut_ptr(), sums.as_mut_ptr(), room, &mut count) })?;
+        // SAFETY: the call has written so many numbers to both, at most `room`.
+        unsafe {
+            hashes.set_len(count as usize);
+            sums.set_len(count as usize);
+        }
+        Ok((hashes, sums))
     }
 }
 
@@ -381,9 +444,16 @@ impl<K: Updated> Object<K> {
         unsafe { K::RESET(self.handle()) };
     }
 
-    pub(crate) fn compact(&self) -> Result<Object<K::Form>, Error> {
-        // SAFETY: the handle is of this kind and locked; `made` passes another one, without an object.
-        self.read(|at| Object::made(|out| unsafe { K::COMPACT(at, out) }))
+    pub(crate) fn compact(&self, ordered: bool) -> Result<Object<K::Form>, Error> {
+        // SAFETY: the handle is of this kind and only read; `made` passes another one, without an object.
+        Object::made(|out| unsafe { K::COMPACT(self.reader(), u32::from(ordered), out) })
+    }
+
+    /// The difference with another sketch that takes updates, ordered.
+    pub(crate) fn minus_updated(&self, other: &Self, seed: u64) -> Result<Object<K::Form>, Error> {
+        // SAFETY: both handles are of this kind and only read, so they may be one; `made` passes another one, without
+        // an object.
+        Object::made(|out| unsafe { K::DIFFERENCE(self.reader(), other.reader(), seed, out) })
     }
 }
 
@@ -392,6 +462,15 @@ impl Theta {
     pub(crate) fn update_hash(&mut self, hash: u64) -> Result<(), Error> {
         // SAFETY: the handle is of this kind, and `&mut` excludes other calls.
         check(unsafe { kc_theta_update_hash(self.handle(), hash) })
+    }
+
+    /// Updates the sketch by a hash, and returns the state after it.
+    #[inline]
+    pub(crate) fn insert_hash(&mut self, hash: u64) -> Result<State, Error> {
+        let mut state = State::default();
+        // SAFETY: the handle is of this kind, and `&mut` excludes other calls; the state is this function's own.
+        check(unsafe { kc_theta_insert_hash(self.handle(), hash, &mut state) })?;
+        Ok(state)
     }
 
     pub(crate) fn update_hashes(&mut self, hashes: &[u64]) -> Result<(), Error> {
@@ -408,6 +487,12 @@ impl Theta {
 
 impl Sums {
     #[inline]
+    pub(crate) fn add_hash(&mut self, hash: u64, value: u64) -> Result<(), Error> {
+        // SAFETY: the handle is of this kind, and `&mut` excludes other calls.
+        check(unsafe { kc_sums_add_hash(self.handle(), hash, value) })
+    }
+
+    #[inline]
     pub(crate) fn add_bytes(&mut self, bytes: &[u8], value: u64) -> Result<(), Error> {
         // SAFETY: the handle is of this kind, and `&mut` excludes other calls; the bytes are those of a slice.
         check(unsafe { kc_sums_add_bytes(self.handle(), bytes.as_ptr(), bytes.len(), value) })
@@ -421,56 +506,74 @@ impl<K: Form> Object<K> {
         Self::made(|at| unsafe { K::READ(at, bytes.as_ptr(), bytes.len(), seed) })
     }
 
-    /// The difference with another sketch, not with the same object.
-    pub(crate) fn minus(&self, other: &Self, seed: u64) -> Result<Self, Error> {
-        let call = |first: *const Raw, second: *const Raw| {
-            // SAFETY: both handles are of this kind, locked and not one; `made` passes a third, without an object.
-            Self::made(|out| unsafe { K::DIFFERENCE(first, second, seed, out) })
-        };
-        // Two threads that lock the same two objects lock the one at the lower address first.
-        if ptr::from_ref(self) < ptr::from_ref(other) {
-            self.read(|first| other.read(|second| call(first, second)))
-        } else {
-            other.read(|second| self.read(|first| call(first, second)))
-        }
+    pub(crate) fn image(&self) -> Result<Vec<u8>, Error> {
+        // No image of a sketch that retains so many is longer.
+        let room = 24 + K::WIDTH * self.state().retained as usize;
+        let mut image = vector::<u8>(room)?;
+        let mut length = 0;
+        // SAFETY: the handle is of this kind and only read; the vector has room for so many bytes.
+        check(unsafe { K::IMAGE(self.reader(), image.as_mut_ptr(), room, &mut length) })?;
+        // SAFETY: the call has written so many bytes, at most `room`.
+        unsafe { image.set_len(length as usize) };
+        Ok(image)
     }
-}
 
-impl Compact {
-    pub(crate) fn copy(&self) -> Result<Self, Error> {
-        // SAFETY: the handle is of this kind and locked; `made` passes another one, without an object.
-        self.read(|at| Self::made(|out| unsafe { kc_compact_clone(at, out) }))
+    pub(crate) fn seed_hash(&self) -> u16 {
+        let mut hash = 0;
+        // SAFETY: the handle is of this kind and only read; the number is this function's own. The call can't be
+        // refused.
+        unsafe { K::SEED_HASH(self.reader(), &mut hash) };
+        hash as u16
+    }
+
+    /// Whether the sketch promises that its hashes ascend.
+    pub(crate) fn is_ordered(&self) -> bool {
+        let mut ordered = 0;
+        // SAFETY: as of `seed_hash`.
+        unsafe { K::IS_ORDERED(self.reader(), &mut ordered) };
+        ordered != 0
+    }
+
+    /// The difference with another sketch. It is ordered if that is asked for, or if this sketch is.
+    pub(crate) fn minus(&self, other: &Self, seed: u64, ordered: bool) -> Result<Self, Error> {
+        // SAFETY: both handles are of this kind and only read, so they may be one; `made` passes another one, without
+        // an object.
+        Self::made(|out| unsafe { K::DIFFERENCE(self.reader(), other.reader(), seed, u32::from(ordered), out) })
+    }
+
+    /// The sketch, or one of its value that isn't ordered unless it must be, as a union makes it. An ordered sketch that
+    /// isn't to be so has at most one hash.
+    pub(crate) fn promising(self, ordered: bool, seed: u64) -> Result<Self, Error> {
+        if ordered || self.state().is_empty() || !self.is_ordered() {
+            return Ok(self);
+        }
+        let mut union = Object::<K::Union>::union(4, seed, 8, MAX_THETA)?;
+        union.add_form(&self)?;
+        union.result(false)
     }
 }
 
 impl<K: Operator> Object<K> {
     pub(crate) fn add(&mut self, sketch: &Object<K::Leaf>) -> Result<(), Error> {
-        let at = self.handle();
-        // SAFETY: the handles are of the call's kinds; `&mut` and the second's lock exclude other calls.
-        check(sketch.read(|sketch| unsafe { K::ADD(at, sketch) }))
+        // SAFETY: the handles are of the call's kinds; `&mut` excludes other calls on the first, the second is only read.
+        check(unsafe { K::ADD(self.handle(), sketch.reader()) })
     }
 
     pub(crate) fn add_form(&mut self, sketch: &Object<K::Form>) -> Result<(), Error> {
-        let at = self.handle();
-        // SAFETY: the handles are of the call's kinds; `&mut` and the second's lock exclude other calls.
-        check(sketch.read(|sketch| unsafe { K::ADD_FORM(at, sketch) }))
+        // SAFETY: as of `add`.
+        check(unsafe { K::ADD_FORM(self.handle(), sketch.reader()) })
     }
 
-    pub(crate) fn add_image(&mut self, bytes: &[u8]) -> Result<(), Error> {
-        // SAFETY: the handle is of this kind, and `&mut` excludes other calls; the bytes are those of a slice.
-        check(unsafe { K::ADD_IMAGE(self.handle(), bytes.as_ptr(), bytes.len()) })
-    }
-
-    pub(crate) fn result(&self) -> Result<Object<K::Form>, Error> {
-        // SAFETY: the handle is of this kind and locked; `made` passes another one, without an object.
-        self.read(|at| Object::made(|out| unsafe { K::RESULT(at, out) }))
+    pub(crate) fn result(&self, ordered: bool) -> Result<Object<K::Form>, Error> {
+        // SAFETY: the handle is of this kind and only read; `made` passes another one, without an object.
+        Object::made(|out| unsafe { K::RESULT(self.reader(), u32::from(ordered), out) })
     }
 }
 
 impl<K: Unites> Object<K> {
-    pub(crate) fn union(lg_k: u8, seed: u64) -> Result<Self, Error> {
+    pub(crate) fn union(lg_k: u8, seed: u64, resize_factor: u32, starting_theta: u64) -> Result<Self, Error> {
         // SAFETY: the handle has no object yet.
-        Self::made(|at| unsafe { K::NEW(at, u32::from(lg_k), seed) })
+        Self::made(|at| unsafe { K::NEW(at, u32::from(lg_k), seed, resize_factor, starting_theta) })
     }
 
     /// Can't be refused.
@@ -487,24 +590,6 @@ impl<K: Intersects> Object<K> {
     }
 }
 
-/// The state of the sketch that an image begins with.
-pub(crate) fn state_of_image(image: &[u8], seed: u64) -> Result<State, Error> {
-    let mut state = State::default();
-    // SAFETY: the image is a slice, and the state is this function's own.
-    check(unsafe { kc_image_state(image.as_ptr(), image.len(), seed, &mut state) })?;
-    Ok(state)
-}
-
-/// The image of the difference of the sketches that two images begin with.
-pub(crate) fn difference_of_images(first: &[u8], second: &[u8], seed: u64) -> Result<Vec<u8>, Error> {
-    bytes_of(first.len() + 16, |out, room, length| {
-        // SAFETY: the inputs are slices; `bytes_of` passes a buffer of `room` bytes of its own.
-        unsafe {
-            kc_images_difference(first.as_ptr(), first.len(), second.as_ptr(), second.len(), seed, out, room, length)
-        }
-    })
-}
-
 /// The hash of bytes under a seed, of 63 bits.
 #[inline]
 pub(crate) fn hash_of_bytes(seed: u64, bytes: &[u8]) -> u64 {
@@ -512,6 +597,14 @@ pub(crate) fn hash_of_bytes(seed: u64, bytes: &[u8]) -> u64 {
     // SAFETY: the bytes are those of a slice, and the number is this function's own. The call can't be refused.
     unsafe { kc_hash_bytes(seed, bytes.as_ptr(), bytes.len(), &mut hash) };
     hash
+}
+
+/// The hash of a seed, of 16 bits, or `None` if it is 0, which no sketch has.
+pub(crate) fn seed_hash(seed: u64) -> Option<u16> {
+    let mut hash = 0;
+    // SAFETY: the number is this function's own.
+    check(unsafe { kc_seed_hash(seed, &mut hash) }).ok()?;
+    Some(hash as u16)
 }
 
 /// The bounds of a count by 1, 2 or 3 standard deviations, of the state of a sketch.

@@ -1,103 +1,90 @@
-//! The parts of images that are read and written here: entries of images that the C library wrote, the flag of their
-//! order, and images of keys and sums whose sketches are not the C library's.
+//! Images of tuple sketches under a policy of a caller's own, whose summaries the C library doesn't have: all that this
+//! crate knows of the format.
+//!
+//! Such an image is that of the theta sketch of its keys, but for two bytes at its front and the summary behind each
+//! hash. The library writes and reads the image of the keys, and so flags, the hash of the seed, the count, theta and
+//! hashes. The crate finds where the hashes begin and how many there are, so that it can put the summaries between
+//! them, or take them out.
 
-use crate::border::State;
-use crate::error::Error;
+use crate::border::vector;
+use crate::codec::{SketchBytes, SketchSlice};
+use crate::error::{Error, ErrorKind};
 
-const THETA: u8 = 3;
-pub(crate) const TUPLE: u8 = 9;
+/// How many times eight bytes the preamble has.
+const LONGS: usize = 0;
+const VERSION: usize = 1;
+const FAMILY: usize = 2;
+/// Which sketch of its family it is, and 0 in images of theta sketches.
+const KIND: usize = 3;
 const FLAGS: usize = 5;
-const READ_ONLY: u8 = 0x02;
+
+const VERSION_OF_KEYS: u8 = 3;
+const THETA: u8 = 3;
+const TUPLE: u8 = 9;
+const SKETCH: u8 = 1;
 const EMPTY: u8 = 0x04;
-const COMPACT: u8 = 0x08;
-const ORDERED: u8 = 0x10;
 
-/// Whether an image of version 3 says that it is of an empty sketch, or that its hashes ascend.
-pub(crate) fn says_ordered(image: &[u8]) -> bool {
-    image[FLAGS] & (EMPTY | ORDERED) != 0
-}
-
-/// Whether an image of version 3 says that it is of an empty sketch.
-pub(crate) fn says_empty(image: &[u8]) -> bool {
-    image[FLAGS] & EMPTY != 0
-}
-
-/// The image as that of a sketch that doesn't promise any order.
-pub(crate) fn unordered(mut image: Vec<u8>) -> Vec<u8> {
-    if !says_empty(&image) {
-        image[FLAGS] &= !ORDERED;
-    }
-    image
-}
-
-pub(crate) fn number_at(bytes: &[u8], at: usize) -> u64 {
-    let mut number = [0; 8];
-    number.copy_from_slice(&bytes[at..at + 8]);
-    u64::from_le_bytes(number)
-}
-
-/// The part of an image that the C library wrote behind its preamble, and how many entries it has.
-fn payload(image: &[u8]) -> (&[u8], usize) {
-    if says_empty(image) {
-        return (&[], 0);
-    }
-    let preamble = 8 * usize::from(image[0]);
-    let entries = if image[0] == 1 { 1 } else { number_at(image, 8) as u32 as usize };
-    (&image[preamble..], entries)
-}
-
-/// The numbers of an image, as many as `read` makes of the entries' bytes.
-fn items<T>(image: &[u8], width: usize, read: impl FnMut(&[u8]) -> T) -> Result<Vec<T>, Error> {
-    let (bytes, entries) = payload(image);
-    let mut found = Vec::new();
-    found.try_reserve_exact(entries).map_err(|_| Error::out_of_memory())?;
-    found.extend(bytes[..width * entries].chunks_exact(width).map(read));
-    Ok(found)
-}
-
-/// The hashes of an image that the C library wrote, in its order.
-pub(crate) fn hashes_of(image: &[u8]) -> Result<Vec<u64>, Error> {
-    items(image, 8, |it| number_at(it, 0))
-}
-
-/// What `entry` makes of the hashes and sums of such an image.
-pub(crate) fn sums_of<T>(image: &[u8], mut entry: impl FnMut(u64, u64) -> T) -> Result<Vec<T>, Error> {
-    items(image, 16, |it| entry(number_at(it, 0), number_at(it, 8)))
-}
-
-/// The preamble of an image of version 3, with room for so many bytes behind it.
-pub(crate) fn preamble(family: u8, state: State, ordered: bool, seed_hash: u16, room: usize) -> Result<Vec<u8>, Error> {
-    let longs: u8 = match state {
-        _ if state.is_estimation_mode() => 3,
-        _ if state.is_empty() || state.retained == 1 => 1,
-        _ => 2,
-    };
-    let flags = READ_ONLY | COMPACT | if state.is_empty() { EMPTY } else { 0 } | if ordered { ORDERED } else { 0 };
-    let seed_hash = if state.is_empty() { 0 } else { seed_hash };
-    let mut image = Vec::new();
-    image.try_reserve_exact(8 * usize::from(longs) + room).map_err(|_| Error::out_of_memory())?;
-    // An image of a tuple sketch has its type behind the family, 1.
-    image.extend_from_slice(&[longs, 3, family, u8::from(family != THETA), 0, flags]);
-    image.extend_from_slice(&seed_hash.to_le_bytes());
-    if longs > 1 {
-        image.extend_from_slice(&state.retained.to_le_bytes());
-    }
-    if longs > 2 {
-        image.extend_from_slice(&state.theta.to_le_bytes());
-    }
-    Ok(image)
-}
-
-/// The image of a theta sketch of these hashes.
-pub(crate) fn theta_image(
-    state: State,
-    ordered: bool,
-    seed_hash: u16,
-    hashes: impl Iterator<Item = u64>,
+/// The image of keys, which the C library wrote, with a summary behind each hash; `room` is that of all summaries.
+pub(crate) fn with_summaries<'a, S: 'a>(
+    keys: &[u8],
+    summaries: impl Iterator<Item = &'a S>,
+    room: usize,
+    mut write: impl FnMut(&S, &mut SketchBytes),
 ) -> Result<Vec<u8>, Error> {
-    let mut image = preamble(THETA, state, ordered, seed_hash, 8 * state.retained as usize)?;
-    for hash in hashes {
-        image.extend_from_slice(&hash.to_le_bytes());
+    let (preamble, hashes) = keys.split_at(8 * usize::from(keys[LONGS]));
+    let mut image = vector(keys.len() + room)?;
+    image.extend_from_slice(preamble);
+    image[FAMILY] = TUPLE;
+    image[KIND] = SKETCH;
+    let mut image = SketchBytes::of(image);
+    for (hash, summary) in hashes.chunks_exact(8).zip(summaries) {
+        image.write(hash);
+        write(summary, &mut image);
     }
-    Ok(image)
+    Ok(image.into_bytes())
+}
+
+/// The image of the keys of an image, and what `read` makes of each hash and the summary behind it. The C library
+/// decides whether the first is the image of a sketch.
+pub(crate) fn parted<T>(
+    bytes: &[u8],
+    mut read: impl FnMut(u64, &mut SketchSlice<'_>) -> Result<T, Error>,
+) -> Result<(Vec<u8>, Vec<T>), Error> {
+    let wrong = || Error::of(ErrorKind::InvalidData);
+    let known = bytes.len() >= 8
+        && (1..=3).contains(&bytes[LONGS])
+        && matches!(bytes[VERSION], 1 | 3)
+        && bytes[FAMILY] == TUPLE
+        && matches!(bytes[KIND], SKETCH | 5);
+    if !known {
+        return Err(wrong());
+    }
+    let length = 8 * usize::from(bytes[LONGS]);
+    let empty = bytes[FLAGS] & EMPTY != 0;
+    if bytes.len() < length && !empty {
+        return Err(wrong());
+    }
+    let (preamble, rest) = bytes.split_at(length.min(bytes.len()));
+    let count = match preamble {
+        _ if empty => 0,
+        [_, _, _, _, _, _, _, _, a, b, c, d, ..] => u32::from_le_bytes([*a, *b, *c, *d]) as usize,
+        _ => 1,
+    };
+    // No more entries than their hashes have bytes for.
+    let room = count.min(rest.len() / 8);
+    let (mut keys, mut entries) = (vector(length + 8 * room)?, vector(room)?);
+    keys.extend_from_slice(preamble);
+    keys[VERSION] = VERSION_OF_KEYS;
+    keys[FAMILY] = THETA;
+    keys[KIND] = 0;
+    let mut rest = SketchSlice::new(rest);
+    for _ in 0..count {
+        let hash = rest.read_u64_le().map_err(|_| wrong())?;
+        if hash == 0 {
+            return Err(wrong());
+        }
+        keys.extend_from_slice(&hash.to_le_bytes());
+        entries.push(read(hash, &mut rest)?);
+    }
+    Ok((keys, entries))
 }

@@ -27,9 +27,9 @@ pub mod common;
 pub mod error;
 pub mod hash;
 mod images;
+mod lent;
 mod settings;
 mod state;
-mod table;
 #[cfg(feature = "theta")]
 pub mod theta;
 #[cfg(feature = "tuple")]

@@ -1,5 +1,6 @@
 //! What the four builders share: the settings of a sketch or a union.
 
+use crate::border;
 use crate::common::ResizeFactor;
 use crate::error::{Error, ErrorKind};
 use crate::hash::{seed_hash, DEFAULT_UPDATE_SEED};
@@ -27,7 +28,6 @@ pub(crate) struct Checked {
     pub(crate) factor: u32,
     pub(crate) start: u64,
     pub(crate) seed: u64,
-    pub(crate) seed_hash: u16,
 }
 
 impl Default for Settings {
@@ -46,28 +46,44 @@ impl Settings {
             factor: self.resize_factor.value() as u32,
             start: self.start.theta()?,
             seed: self.seed,
-            seed_hash: seed_hash(self.seed, ErrorKind::InvalidArgument)?,
         })
+    }
+}
+
+impl Checked {
+    /// The hash of the seed, of an object that was made.
+    pub(crate) fn seed_hash(&self) -> u16 {
+        border::seed_hash(self.seed).expect("the C library refuses seeds of the hash 0")
+    }
+
+    /// Why the C library refused to make an object of these settings.
+    #[cold]
+    pub(crate) fn refusal(&self, refused: Error) -> Error {
+        match refused.kind() {
+            ErrorKind::InvalidArgument => seed_hash(self.seed, ErrorKind::InvalidArgument).err().unwrap_or(refused),
+            _ => refused,
+        }
     }
 }
 
 impl Start {
     fn theta(self) -> Result<u64, Error> {
-        let (theta, given) = match self {
-            Self::Theta(theta) => (theta, format_args!("the starting theta is {theta}").to_string()),
-            Self::Probability(1.0) => return Ok(MAX_THETA),
-            Self::Probability(p) if p > 0.0 && p < 1.0 => {
-                ((MAX_THETA as f64 * f64::from(p)) as u64, format!("the sampling probability is {p}"))
-            }
+        let theta = match self {
+            Self::Theta(theta) => theta,
+            Self::Probability(1.0) => MAX_THETA,
+            Self::Probability(p) if p > 0.0 && p < 1.0 => (MAX_THETA as f64 * f64::from(p)) as u64,
             Self::Probability(p) => {
                 return Err(Error::argument(format!("the sampling probability is {p}, and must be above 0, at most 1")))
             }
         };
         if (1..=MAX_THETA).contains(&theta) {
-            Ok(theta)
-        } else {
-            Err(Error::argument(format!("{given}, and theta must be from 1 to 2^63 - 1")))
+            return Ok(theta);
         }
+        let given = match self {
+            Self::Theta(theta) => format!("the starting theta is {theta}"),
+            Self::Probability(p) => format!("the sampling probability is {p}"),
+        };
+        Err(Error::argument(format!("{given}, and theta must be from 1 to 2^63 - 1")))
     }
 }
 
@@ -81,7 +97,7 @@ macro_rules! setters {
             self
         }
 
-        /// By which factor slots grow. No answer depends on it. Unions grow eightfold, whatever it is.
+        /// By which factor slots grow. No answer depends on it.
         pub fn resize_factor(mut self, factor: ResizeFactor) -> Self {
             self.settings.resize_factor = factor;
             self

@@ -18,11 +18,6 @@ impl State {
         !self.is_empty() && self.theta < MAX_THETA
     }
 
-    /// Whether the entries are in order whatever the caller asked for: there are none to order.
-    pub(crate) fn is_trivial(self) -> bool {
-        self.is_empty() || (self.retained == 1 && self.theta == MAX_THETA)
-    }
-
     /// Theta as a fraction of its greatest value.
     pub(crate) fn fraction(self) -> f64 {
         self.theta as f64 / MAX_THETA as f64

@@ -1,4 +1,29 @@
 //! Theta sketches: keys, builders, states, images, operators.
+//!
+//! The original's 29 documented examples of both families run over this crate as they are (checks/rust); none is left
+//! out. Its tests, and where this crate has what they show:
+//!
+//! - `theta_and_compact_theta_equivalent`: `a_compact_sketch_has_what_the_sketch_has`.
+//! - `compact_theta_serialize_deserialize_round_trip_equivalent_to_compact_and_theta`: the same.
+//! - `compact_theta_serialize_compressed_round_trip_tail_entries`: left out, since compressed images are.
+//! - `compact_theta_serialize_compressed_round_trip_more_than_255_entries`: left out likewise.
+//! - `compact_theta_serialize_compressed_round_trip_estimation_mode`: left out likewise.
+//!
+//! What its examples show of theta sketches, by their item, and the test of it here:
+//!
+//! - `ResizeFactor`: `a_resize_factor_changes_no_answer`.
+//! - `theta`, `ThetaSketch::estimate`: `few_keys_are_counted_exactly`.
+//! - `ThetaSketch::update`: `keys_are_what_hash_writes`.
+//! - `ThetaSketch::iter`: `calls_with_try_return_what_others_do`.
+//! - `ThetaSketch::compact`: `a_compact_sketch_has_what_the_sketch_has`.
+//! - `ThetaSketch::lower_bound`, `ThetaSketch::upper_bound`: `many_keys_are_estimated_within_bounds`.
+//! - `ThetaSketchView`: `views_show_what_sketches_have`.
+//! - `ThetaSketchBuilder::lg_k`, `ThetaSketchBuilder::build`, and these of unions:
+//!   `settings_out_of_range_are_refused_with_reasons`.
+//! - `ThetaSketchBuilder::seed`, and that of unions: `sketches_of_other_seeds_are_refused`.
+//! - `ThetaSketchBuilder::sampling_probability`: `a_sketch_begins_at_its_starting_theta`.
+//! - `ThetaUnionBuilder::sampling_probability`: `a_union_begins_at_its_starting_theta`.
+//! - `ThetaANotB`: `a_difference_keeps_what_the_second_lacks`.
 #![cfg(feature = "theta")]
 
 use kaftanclay::common::{NumStdDev, ResizeFactor};
@@ -35,6 +60,13 @@ fn union_of<'a>(lg_k: u8, sketches: impl IntoIterator<Item = ThetaSketchView<'a>
 
 fn hashes(entries: impl Iterator<Item = ThetaEntry>) -> Vec<u64> {
     entries.map(|it| it.hash()).collect()
+}
+
+/// Those of a sketch that promises no order.
+fn sorted(entries: impl Iterator<Item = ThetaEntry>) -> Vec<u64> {
+    let mut hashes = hashes(entries);
+    hashes.sort_unstable();
+    hashes
 }
 
 fn hash_of(value: impl Hash) -> u64 {
@@ -208,11 +240,10 @@ fn trim_keeps_the_least_hashes() {
         sketch.update(number);
         number += 1;
     }
-    let mut all = hashes(sketch.iter());
-    all.sort_unstable();
+    let all = sorted(sketch.iter());
     sketch.trim();
     assert_eq!((sketch.num_retained(), sketch.theta64()), (32, all[32]));
-    assert_eq!(hashes(sketch.iter()), &all[..32]);
+    assert_eq!(sorted(sketch.iter()), &all[..32]);
     sketch.try_trim().unwrap();
     assert_eq!(sketch.num_retained(), 32);
     sketch.reset();
@@ -231,10 +262,7 @@ fn a_compact_sketch_has_what_the_sketch_has() {
             assert_eq!(compact.theta64(), sketch.theta64());
             assert_eq!(compact.estimate().to_bits(), sketch.estimate().to_bits());
             assert_eq!(compact.is_ordered(), ordered || count < 2);
-            let (mut a, mut b) = (hashes(compact.iter()), hashes(sketch.iter()));
-            a.sort_unstable();
-            b.sort_unstable();
-            assert_eq!(a, b);
+            assert_eq!(sorted(compact.iter()), sorted(sketch.iter()));
             assert_same(&compact, &CompactThetaSketch::deserialize(&compact.serialize()).unwrap());
             assert_same(&compact, &compact.clone());
         }
@@ -260,19 +288,20 @@ fn images_have_the_bytes_of_the_format() {
 
 #[test]
 fn an_unordered_image_keeps_its_order() {
-    let mut image = sketch_of(12, 0..3).compact(false).serialize();
+    let ascending = sketch_of(12, 0..3).compact(true);
+    let mut image = ascending.serialize();
+    image[5] = 0x0a;
     image[16..].rotate_left(8);
     let read = CompactThetaSketch::deserialize(&image).unwrap();
     assert!(!read.is_ordered());
     assert_eq!(read.serialize(), image);
-    let mut sorted = hashes(read.iter());
-    sorted.rotate_right(1);
-    assert_eq!(sorted, hashes(sketch_of(12, 0..3).iter()));
-    // What is made of it ascends.
-    let again = union_of(12, [read.as_view()]).to_sketch(true);
-    assert_same(&again, &sketch_of(12, 0..3).compact(true));
+    let mut back = hashes(read.iter());
+    back.rotate_right(1);
+    assert_eq!(back, hashes(ascending.iter()));
+    assert_same(&union_of(12, [read.as_view()]).to_sketch(true), &ascending);
+    assert_same(&ThetaANotB::default().compute(&read, &sketch(12), true).unwrap(), &ascending);
     let copy = ThetaANotB::default().compute(&read, &sketch(12), false).unwrap();
-    assert_eq!((copy.is_ordered(), hashes(copy.iter())), (false, sorted));
+    assert_eq!((copy.is_ordered(), sorted(copy.iter())), (false, hashes(ascending.iter())));
 }
 
 #[test]
@@ -363,7 +392,7 @@ fn a_union_begins_at_its_starting_theta() {
     let all = sketch_of(12, 0..1000);
     for _ in 0..2 {
         union.update(&all).unwrap();
-        let below: Vec<u64> = hashes(all.iter()).into_iter().filter(|it| *it < 1 << 61).collect();
+        let below: Vec<u64> = sorted(all.iter()).into_iter().filter(|it| *it < 1 << 61).collect();
         assert_eq!((union.to_sketch(true).theta64(), hashes(union.to_sketch(true).iter())), (1 << 61, below));
         union.reset();
         assert_eq!(union.to_sketch(true).theta64(), MAX_THETA);
@@ -425,6 +454,24 @@ fn a_difference_keeps_what_the_second_lacks() {
     assert!(a_not_b.compute(&sketch(12), &cb, true).unwrap().is_empty());
 }
 
+/// A form of one hash is always ordered, and a sketch never.
+#[test]
+fn a_difference_of_one_hash_promises_what_is_asked() {
+    let (few, many) = (sketch_of(12, 0..1), sketch_of(4, 1..1000));
+    let a_not_b = ThetaANotB::default();
+    for (second, name) in [(many.as_view(), "a sketch"), (many.compact(true).as_view(), "a form")] {
+        let asked = a_not_b.compute(&few, second, true).unwrap();
+        let unasked = a_not_b.compute(&few, second, false).unwrap();
+        assert_eq!((asked.is_ordered(), unasked.is_ordered()), (true, false), "without {name}");
+        assert_eq!((asked.theta64(), unasked.theta64()), (many.theta64(), many.theta64()));
+        assert_eq!(hashes(asked.iter()), hashes(unasked.iter()));
+        assert_eq!(unasked.serialize()[5], 0x0a);
+        assert!(a_not_b.compute(&few.compact(false), second, false).unwrap().is_ordered());
+    }
+    assert!(a_not_b.compute(&few, &sketch(12), false).unwrap().is_ordered());
+    assert!(a_not_b.compute(&sketch(12), &many, false).unwrap().is_empty());
+}
+
 #[test]
 fn sketches_of_other_seeds_are_refused() {
     let mut other = ThetaSketchBuilder::default().seed(7).build().unwrap();
@@ -448,6 +495,9 @@ fn sketches_of_other_seeds_are_refused() {
         assert_eq!(error.kind(), ErrorKind::InvalidArgument);
         assert!(error.message().starts_with(&reason), "{error}");
     }
+    let mut seven = ThetaUnionBuilder::default().seed(7).build().unwrap();
+    seven.update(&other).unwrap();
+    assert_same(&seven.to_sketch(true), &other.compact(true));
     assert!(!intersection.has_result());
     assert_same(&union.to_sketch(true), &own.compact(true));
     // An empty intersection stays empty, whatever comes.
@@ -464,7 +514,7 @@ fn views_show_what_sketches_have() {
         assert_eq!(view.num_retained(), sketch.num_retained());
         assert_eq!((view.seed_hash(), view.is_empty()), (0x93cc, false));
         assert_eq!(view.iter().size_hint(), (sketch.num_retained(), Some(sketch.num_retained())));
-        assert_eq!(hashes(view.try_iter().unwrap()), hashes(compact.iter()));
+        assert_eq!(sorted(view.try_iter().unwrap()), hashes(compact.iter()));
     }
     assert!(compact.as_view().is_ordered() && !sketch.as_view().is_ordered());
 }
@@ -474,11 +524,13 @@ fn sizes_and_texts_are_there() {
     let (few, many) = (sketch_of(12, 0..10), sketch_of(12, 0..100_000));
     assert!(few.estimated_size() < many.estimated_size());
     assert_eq!(many.estimated_size(), 8 << 13);
-    assert!(many.compact(true).estimated_size() >= 8 << 12);
+    let form = many.compact(true);
+    assert_eq!(form.estimated_size(), 8 * form.num_retained());
     let union = union_of(12, [few.as_view()]);
     let mut intersection = ThetaIntersection::default();
+    assert_eq!(intersection.estimated_size(), 0);
     intersection.update(&few).unwrap();
-    assert!(union.estimated_size() > 0 && intersection.estimated_size() >= 80);
+    assert!(union.estimated_size() >= 80 && intersection.estimated_size() == 80);
     let texts = format!("{few:?} {:?} {:?} {union:?} {intersection:?}", few.compact(true), few.as_view());
     assert!(texts.contains("retained: 10"));
 }
@@ -488,7 +540,7 @@ fn calls_with_try_return_what_others_do() {
     let mut sketch = sketch(12);
     sketch.try_update("ann").unwrap();
     sketch.try_update_hash(5).unwrap();
-    assert_eq!(hashes(sketch.try_iter().unwrap()), [5, 5478876170378336244]);
+    assert_eq!(sorted(sketch.try_iter().unwrap()), [5, 5478876170378336244]);
     let compact = sketch.try_compact(true).unwrap();
     assert_eq!(hashes(compact.try_iter().unwrap()), hashes(compact.iter()));
     assert_eq!(compact.try_serialize().unwrap(), compact.serialize());

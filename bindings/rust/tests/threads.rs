@@ -72,7 +72,6 @@ fn threads_read_one_sketch_at_once() {
                     assert_eq!(a.estimate(), ca.estimate());
                     assert_eq!(b.iter().count(), cb.iter().count());
                     let a_not_b = ThetaANotB::default();
-                    // Both orders at once: locks are taken in one order.
                     if number % 2 == 0 {
                         assert_eq!(a_not_b.compute(&*ca, &*cb, true).unwrap().serialize(), wanted);
                     } else {

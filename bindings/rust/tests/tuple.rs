@@ -1,4 +1,15 @@
 //! Tuple sketches: sums of the C library, and policies of a caller's own beside them.
+//!
+//! What the original's documented examples show of them, by their item, and the test of it here (`theta.rs` has the
+//! others):
+//!
+//! - `tuple`, `TupleSketch`, `TupleSketch::update`, `TupleSketch::compact`: `sums_are_added_at_their_keys`.
+//! - `TupleSketchView`: `views_sizes_and_texts_are_there`.
+//! - `CompactTupleSketch::serialize`: `images_have_summaries_behind_their_hashes`.
+//! - `TupleSketchBuilder::new`: `summaries_may_be_of_any_type`.
+//! - `TupleUnion`, `TupleUnionBuilder::new`: `unions_of_both_kinds_have_one_value`.
+//! - `TupleIntersection`: `intersections_of_both_kinds_have_one_value`.
+//! - `TupleANotB`: `differences_keep_the_summaries_of_the_first`.
 #![cfg(all(feature = "theta", feature = "tuple"))]
 
 use kaftanclay::codec::{SketchBytes, SketchSlice};
@@ -122,7 +133,9 @@ fn sums_are_added_at_their_keys() {
         let mut keys = ThetaSketchBuilder::default().build().unwrap();
         keys.update("ann");
         keys.update("bob");
-        keys.iter().map(|it| it.hash()).collect::<Vec<_>>()
+        let mut keys: Vec<u64> = keys.iter().map(|it| it.hash()).collect();
+        keys.sort_unstable();
+        keys
     };
     assert_eq!(pairs(visits.iter()).iter().map(|it| it.0).collect::<Vec<_>>(), keys);
     visits.reset();
@@ -222,9 +235,9 @@ fn a_policy_of_ones_own_retains_what_theta_sketches_do() {
                 a.trim();
                 b.trim();
             }
-            assert_eq!(pairs(b.iter()).iter().map(|it| it.0).collect::<Vec<_>>(), {
-                theta.iter().map(|it| it.hash()).collect::<Vec<_>>()
-            });
+            let mut hashes: Vec<u64> = theta.iter().map(|it| it.hash()).collect();
+            hashes.sort_unstable();
+            assert_eq!(pairs(b.iter()).iter().map(|it| it.0).collect::<Vec<_>>(), hashes);
             assert_eq!((b.theta64(), b.theta(), b.estimate()), (theta.theta64(), theta.theta(), theta.estimate()));
             assert_eq!(b.lower_bound(NumStdDev::Two), theta.lower_bound(NumStdDev::Two));
             assert_eq!(a.upper_bound(NumStdDev::One), theta.upper_bound(NumStdDev::One));
@@ -416,11 +429,47 @@ fn differences_keep_the_summaries_of_the_first() {
     assert!(a_not_b.compute(&sums(5), &form_b, true).unwrap().is_empty());
 }
 
+/// As of theta sketches: a form of one key is always ordered, and a sketch never.
+#[test]
+fn a_difference_of_one_key_promises_what_is_asked() {
+    let (sum, own) = (sums_of(12, 0..1), own_of(12, 0..1));
+    let (sums, owns) = (sums_of(4, 1..1000), own_of(4, 1..1000));
+    let a_not_b = TupleANotB::default();
+    for first in [sum.as_view(), own.as_view()] {
+        for second in [sums.as_view(), owns.as_view(), sums.compact(true).as_view(), owns.compact(true).as_view()] {
+            let asked = a_not_b.compute(first, second, true).unwrap();
+            let unasked = a_not_b.compute(first, second, false).unwrap();
+            assert_eq!((asked.is_ordered(), unasked.is_ordered()), (true, false));
+            assert_eq!((asked.theta64(), unasked.theta64()), (sums.theta64(), sums.theta64()));
+            assert_eq!(pairs(asked.iter()), pairs(unasked.iter()));
+            assert_eq!(unasked.serialize()[5], 0x0a);
+        }
+    }
+}
+
+#[test]
+fn ready_hashes_are_keys_of_their_own() {
+    let (mut sum, mut own) = (sums(12), own(12));
+    for hash in [5, 0, 1 << 62, 5, u64::MAX] {
+        sum.update_hash(hash, 7);
+        own.try_update_hash(hash, 7).unwrap();
+    }
+    assert_eq!(pairs(sum.iter()), [(5, 14), (1 << 62, 7)]);
+    assert_same(&sum.compact(true), &own.compact(true));
+    // A hash that isn't retained makes a sketch nonempty.
+    let (mut sum, mut own) = (sums(12), self::own(12));
+    sum.try_update_hash(0, 1).unwrap();
+    own.update_hash(0, 1);
+    assert!(!sum.is_empty() && !own.is_empty());
+    assert_same(&sum.compact(true), &own.compact(true));
+}
+
 #[test]
 fn sketches_of_other_seeds_are_refused() {
     let build = |seed| TupleSketchBuilder::new(OwnSum).seed(seed).build().unwrap();
     let mut other = build(7);
-    let mut other_sums = TupleSketchBuilder::new(DefaultUpdatePolicy::<u64>::default()).seed(7).build().unwrap();
+    let summing = |seed| TupleSketchBuilder::new(DefaultUpdatePolicy::<u64>::default()).seed(seed).build().unwrap();
+    let mut other_sums = summing(7);
     let mut of_sums = TupleUnionBuilder::new(DefaultUnionPolicy::<u64>::default()).build().unwrap();
     let mut of_own = TupleUnionBuilder::new(OwnSum).build().unwrap();
     let mut both = TupleIntersection::new(OwnSum);
@@ -444,6 +493,14 @@ fn sketches_of_other_seeds_are_refused() {
             assert!(error.message().contains("0x93cc is needed: build both with one seed"), "{error}");
         }
         a_not_b.compute(&build(9001), view, true).unwrap();
+    }
+    // A difference of an empty sketch is empty, and of its seed.
+    let (empty, empty_sums) = (build(7), summing(7));
+    for view in
+        [empty.as_view(), empty_sums.as_view(), empty.compact(true).as_view(), empty_sums.compact(true).as_view()]
+    {
+        let none = a_not_b.compute(view, &own, false).unwrap();
+        assert_eq!((none.is_empty(), none.is_ordered(), none.seed_hash()), (true, true, other.seed_hash()));
     }
     assert!(!both.has_result() && of_own.to_sketch(true).is_empty());
     both.update(&build(9001)).unwrap();
@@ -627,7 +684,7 @@ fn views_sizes_and_texts_are_there() {
         assert_eq!(pairs(view.try_iter().unwrap()), pairs(form.iter()));
     }
     assert!(form.as_view().is_ordered() && !sum.as_view().is_ordered());
-    assert!(sum.estimated_size() > 0 && own.estimated_size() > 0 && form.estimated_size() >= 160);
+    assert!(sum.estimated_size() >= 240 && own.estimated_size() > 240 && form.estimated_size() >= 160);
     let mut union = TupleUnionBuilder::new(OwnSum).build().unwrap();
     union.update(&own).unwrap();
     let mut both = TupleIntersection::new(OwnSum);

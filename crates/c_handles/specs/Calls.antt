@@ -1,5 +1,5 @@
 -- The shapes of calls on handles: by the object before, the status and the object after.
-use Rattle.std.specs.Prelude.{◌≡◌, ℕ, Option, Some, None, Result, MatchResult}
+use Rattle.std.specs.Prelude.{◌≡◌, ℕ, Bool, Option, Some, None, Result, MatchResult}
 use Rattle.sketch_base.specs.declared.error.ErrorKind.{ErrorKind}
 use Rattle.c_objects.specs.Status.{status_of}
 
@@ -72,3 +72,37 @@ OnBoth Does (Some a) None status new_first new = (status ≡ 1) × (new_first �
 OnBoth Does (Some a) (Some b) status None new = ⊥
 OnBoth Does (Some a) (Some b) status (Some c) None = ⊥
 OnBoth Does (Some a) (Some b) status (Some c) (Some d) = Does a b status c d
+
+-- some number of an object was written, with status 0; without an object the status is 1 and the caller's variable is as before
+abbrev pub WritesSome : {T V : Type 0} → Option T → (before : V) → (status : ℕ) → (after : V) → Type 0
+WritesSome None before status after = (status ≡ 1) × (after ≡ before)
+WritesSome (Some object) before status after = status ≡ 0
+
+-- a call that fills a handle from an object in an order of choice: without a valid order it is refused with 1, and the handle
+-- is as before
+abbrev pub FillsInOrder : {S T : Type 0}
+    → (IsMade : Bool → S → T → Type 0)
+    → (IsRefused : S → ℕ → Type 0)
+    → (order : Option Bool)
+    → Option S
+    → Option T
+    → (status : ℕ)
+    → Option T
+    → Type 0
+FillsInOrder IsMade IsRefused None source old status new = (status ≡ 1) × (new ≡ old)
+FillsInOrder IsMade IsRefused (Some ordered) source old status new = FillsFrom (IsMade ordered) IsRefused source old status new
+
+-- the same from two objects
+abbrev pub FillsFromTwoInOrder : {S T : Type 0}
+    → (AreAccepted : S → S → Type 0)
+    → (IsMade : Bool → S → S → T → Type 0)
+    → (IsRefused : S → S → ℕ → Type 0)
+    → (order : Option Bool)
+    → (first second : Option S)
+    → (old : Option T)
+    → (status : ℕ)
+    → (new : Option T)
+    → Type 0
+FillsFromTwoInOrder AreAccepted IsMade IsRefused None first second old status new = (status ≡ 1) × (new ≡ old)
+FillsFromTwoInOrder AreAccepted IsMade IsRefused (Some ordered) first second old status new =
+    FillsFromTwo AreAccepted (IsMade ordered) IsRefused first second old status new

@@ -2,8 +2,10 @@
 //! needs is missing.
 ghost use Rattle.std.specs.Prelude.{◌≡◌, true, option_map};
 ghost use Rattle.c_handles.specs.Calls.{OnObject, OnObjectWith, Fills, FillsFrom, FillsFromTwo, WritesValue};
+ghost use Rattle.c_handles.specs.Calls.{WritesSome, FillsInOrder, FillsFromTwoInOrder};
 ghost use Rattle.c_objects.specs.Bounds.{is_state, wide};
 ghost use Rattle.c_objects.specs.Buffer.{WritesOf};
+ghost use Rattle.c_objects.specs.Settings.{order_number, valid_order};
 ghost use Rattle.c_objects.specs.Status.{IsMemoryRefusal};
 
 use crate::owned::Owned;
@@ -12,8 +14,9 @@ use c_objects::bounds::Wide;
 use c_objects::buffer::put_made;
 use c_objects::objects::{
     Accepts, AcceptsImages, CanCopy, CanReset, CanTrim, FromImage, HasCompact, HasDifference,
-    HasImage, HasState, HasTotal,
+    HasForm, HasImage, HasSize, HasState, HasTotal,
 };
+use c_objects::settings::order_of;
 use c_objects::state::State;
 use c_objects::status::{INVALID_ARGUMENT, OK};
 use std::alloc::Global;
@@ -62,12 +65,24 @@ impl<T: HasImage> Reader<T> {
 }
 
 impl<T: HasCompact> Reader<T> {
-    /// Puts the compact sketch of the object into another pointer.
-    pub fn compact(&self, alloc: Global, out: &mut Owned<T::Compact>) -> u32
-        ensures made { FillsFrom T.is_compact T.no_compact self.now.value out.old.value result out.new.value }
+    /// Puts the compact sketch of the object into another pointer, ordered if asked for.
+    pub fn compact(&self, alloc: Global, ordered: bool, out: &mut Owned<T::Compact>) -> u32
+        ensures made { FillsFrom (T.is_compact ordered) T.no_compact self.now.value out.old.value result
+            out.new.value }
     {
         match self.get() {
-            Some(object) => out.put_or(alloc, object.compact()),
+            Some(object) => out.put_or(alloc, object.compact(ordered)),
+            None => INVALID_ARGUMENT,
+        }
+    }
+
+    /// The same in the order that a number asks for (`order_of`).
+    pub fn compact_in(&self, alloc: Global, order: u32, out: &mut Owned<T::Compact>) -> u32
+        ensures made { FillsInOrder T.is_compact T.no_compact (valid_order order) self.now.value out.old.value result
+            out.new.value }
+    {
+        match order_of(order) {
+            Some(ordered) => self.compact(alloc, ordered, out),
             None => INVALID_ARGUMENT,
         }
     }
@@ -87,15 +102,40 @@ impl<T: CanCopy> Reader<T> {
 
 impl<T: HasDifference> Reader<T> {
     /// Puts the difference of the sketch and that of another pointer into a third pointer.
-    pub fn difference(&self, alloc: Global, other: &Reader<T>, seed: u64, out: &mut Owned<T>) -> u32
-        ensures made { FillsFromTwo (T.are_of_seed seed) T.is_difference (T.no_difference seed)
+    pub fn difference(
+        &self,
+        alloc: Global,
+        other: &Reader<T>,
+        seed: u64,
+        ordered: bool,
+        out: &mut Owned<T::Difference>,
+    ) -> u32
+        ensures made { FillsFromTwo (T.are_of_seed seed) (T.is_difference ordered) (T.no_difference seed)
             self.now.value other.now.value out.old.value result out.new.value }
     {
         match self.get() {
             Some(first) => match other.get() {
-                Some(second) => out.put_or(alloc, first.difference(alloc, seed, second)),
+                Some(second) => out.put_or(alloc, first.difference(alloc, seed, second, ordered)),
                 None => INVALID_ARGUMENT,
             },
+            None => INVALID_ARGUMENT,
+        }
+    }
+
+    /// The same in the order that a number asks for (`order_of`).
+    pub fn difference_in(
+        &self,
+        alloc: Global,
+        other: &Reader<T>,
+        seed: u64,
+        order: u32,
+        out: &mut Owned<T::Difference>,
+    ) -> u32
+        ensures made { FillsFromTwoInOrder (T.are_of_seed seed) T.is_difference (T.no_difference seed)
+            (valid_order order) self.now.value other.now.value out.old.value result out.new.value }
+    {
+        match order_of(order) {
+            Some(ordered) => self.difference(alloc, other, seed, ordered, out),
             None => INVALID_ARGUMENT,
         }
     }
@@ -160,5 +200,48 @@ impl<T: FromImage> Owned<T> {
         ensures { Fills (T.is_read image.now seed) (T.is_unread image.now seed) self.old.value result self.new.value }
     {
         self.put_or(alloc, T::read(alloc, image, seed))
+    }
+}
+
+impl<T: HasForm> Reader<T> {
+    /// Writes the hash of the sketch's seed.
+    pub fn seed_hash(&self, out: &mut u32) -> u32
+        ensures { WritesValue (option_map T.seed_hash_of self.now.value) out.old result out.new }
+    {
+        match self.get() {
+            Some(sketch) => {
+                *out = sketch.seed_hash() as u32;
+                OK
+            }
+            None => INVALID_ARGUMENT,
+        }
+    }
+
+    /// Writes 1 if the sketch is ordered, and else 0.
+    pub fn is_ordered(&self, out: &mut u32) -> u32
+        ensures { WritesValue (option_map (λ s. order_number (T.is_in_order s)) self.now.value) out.old result out.new }
+    {
+        match self.get() {
+            Some(sketch) => {
+                *out = if sketch.is_ordered() { 1 } else { 0 };
+                OK
+            }
+            None => INVALID_ARGUMENT,
+        }
+    }
+}
+
+impl<T: HasSize> Reader<T> {
+    /// Writes the bytes that the object's entries or slots take.
+    pub fn estimated_size(&self, out: &mut u64) -> u32
+        ensures { WritesSome self.now.value out.old result out.new }
+    {
+        match self.get() {
+            Some(object) => {
+                *out = object.estimated_size();
+                OK
+            }
+            None => INVALID_ARGUMENT,
+        }
     }
 }

@@ -2,7 +2,8 @@
 ghost use Rattle.std.specs.Prelude.{◌≡◌, true, None, option_map};
 ghost use Rattle.c_objects.specs.Bounds.{is_state};
 ghost use Rattle.c_objects.specs.Buffer.{WritesOf};
-ghost use Rattle.c_handles.specs.Calls.{Fills, FillsFrom, WritesValue};
+ghost use Rattle.c_handles.specs.Calls.{Fills, FillsFrom, WritesValue, WritesSome};
+ghost use Rattle.c_objects.specs.Settings.{order_number};
 ghost use Rattle.c_objects.specs.Status.{IsMemoryRefusal};
 ghost use Rattle.c_objects.specs.Thetas.{compact_state, CopiesHashes, IsCompactImage, IsCopy, IsReadFrom};
 ghost use Rattle.c_objects.specs.Thetas.{IsReadRefusal};
@@ -86,4 +87,28 @@ pub extern "C" fn kcp_compact_hashes(
         Some(object) => put_hashes_of(object, hashes, count),
         None => INVALID_ARGUMENT,
     }
+}
+
+/// Writes the hash of the sketch's seed, of 16 bits, as `kcp_seed_hash` does.
+#[unsafe(no_mangle)]
+pub extern "C" fn kcp_compact_seed_hash(sketch: &mut CompactReader, out: &mut u32) -> u32
+    ensures { WritesValue (option_map (λ s. s.sketch.seed_hash) sketch.old.value) out.old result out.new }
+{
+    sketch.reader().seed_hash(out)
+}
+
+/// Writes 1 if the sketch is ordered: its hashes ascend; otherwise 0, and they are in any order.
+#[unsafe(no_mangle)]
+pub extern "C" fn kcp_compact_is_ordered(sketch: &mut CompactReader, out: &mut u32) -> u32
+    ensures { WritesValue (option_map (λ s. order_number s.sketch.ordered) sketch.old.value) out.old result out.new }
+{
+    sketch.reader().is_ordered(out)
+}
+
+/// Writes how many bytes the sketch's hashes take, 8 for each.
+#[unsafe(no_mangle)]
+pub extern "C" fn kcp_compact_estimated_size(sketch: &mut CompactReader, bytes: &mut u64) -> u32
+    ensures { WritesSome sketch.old.value bytes.old result bytes.new }
+{
+    sketch.reader().estimated_size(bytes)
 }

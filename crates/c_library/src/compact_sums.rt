@@ -2,9 +2,10 @@
 ghost use Rattle.std.specs.Prelude.{◌≡◌, true, None, option_map, length};
 ghost use Rattle.c_objects.specs.Bounds.{is_state, wide};
 ghost use Rattle.c_objects.specs.Buffer.{WritesOf};
-ghost use Rattle.c_handles.specs.Calls.{Fills, FillsFrom, WritesValue};
+ghost use Rattle.c_handles.specs.Calls.{Fills, FillsFrom, WritesValue, WritesSome};
 ghost use Rattle.c_objects.specs.CompactSums.{IsSumsReadFrom, IsSumsReadRefusal, compact_sums_state};
 ghost use Rattle.c_objects.specs.CompactSums.{IsCompactSumsImage, IsCopyOfSums, compact_total, CopiesEntries};
+ghost use Rattle.c_objects.specs.Settings.{order_number};
 ghost use Rattle.c_objects.specs.Status.{IsMemoryRefusal};
 
 use c_handles::handles::CompactSumsHandle;
@@ -97,4 +98,31 @@ pub extern "C" fn kcp_compact_sums_total(sums: &mut CompactSumsReader, out: &mut
     ensures { WritesValue (option_map (λ s. wide (compact_total s)) sums.old.value) out.old result out.new }
 {
     sums.reader().total(out)
+}
+
+/// Writes the hash of the sketch's seed, of 16 bits, as `kcp_compact_seed_hash` does.
+#[unsafe(no_mangle)]
+pub extern "C" fn kcp_compact_sums_seed_hash(sums: &mut CompactSumsReader, out: &mut u32) -> u32
+    ensures { WritesValue (option_map (λ s. s.sketch.seed_hash) sums.old.value) out.old result out.new }
+{
+    sums.reader().seed_hash(out)
+}
+
+/// Writes 1 if the sketch is ordered, and otherwise 0, as `kcp_compact_is_ordered` does.
+#[unsafe(no_mangle)]
+pub extern "C" fn kcp_compact_sums_is_ordered(sums: &mut CompactSumsReader, out: &mut u32) -> u32
+    ensures { WritesValue (option_map (λ s. order_number s.sketch.ordered) sums.old.value) out.old result out.new }
+{
+    sums.reader().is_ordered(out)
+}
+
+/// Writes how many bytes the sketch's hashes and sums take, 16 for each pair.
+#[unsafe(no_mangle)]
+pub extern "C" fn kcp_compact_sums_estimated_size(
+    sums: &mut CompactSumsReader,
+    bytes: &mut u64,
+) -> u32
+    ensures { WritesSome sums.old.value bytes.old result bytes.new }
+{
+    sums.reader().estimated_size(bytes)
 }

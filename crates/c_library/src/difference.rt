@@ -1,7 +1,9 @@
 //! Differences of theta sketches.
 ghost use Rattle.std.specs.Prelude.{◌≡◌};
-ghost use Rattle.c_handles.specs.Calls.{FillsFromTwo};
+ghost use Rattle.c_handles.specs.Calls.{FillsFromTwo, FillsFromTwoInOrder};
 ghost use Rattle.c_objects.specs.Intersection.{AreOfSeed, IsDifferenceOf, IsDifferenceRefusal};
+ghost use Rattle.c_objects.specs.Orders.{IsDifferenceIn};
+ghost use Rattle.c_objects.specs.Settings.{valid_order};
 
 use c_handles::handles::CompactHandle;
 use c_handles::readers::CompactReader;
@@ -26,5 +28,26 @@ pub extern "C" fn kcp_difference(
 {
     first
         .reader()
-        .difference(alloc, second.reader(), seed, out.owned())
+        .difference(alloc, second.reader(), seed, true, out.owned())
+}
+
+/// Makes the difference of two sketches, as `kcp_difference` does; it is ordered if `ordered` is 1, or if the first
+/// sketch is.
+///
+/// Refused as `kcp_difference` is, and with `INVALID_ARGUMENT` if `ordered` is neither 0 nor 1.
+#[unsafe(no_mangle)]
+pub extern "C" fn kcp_difference_with(
+    alloc: Global,
+    first: &mut CompactReader,
+    second: &mut CompactReader,
+    seed: u64,
+    ordered: u32,
+    out: &mut CompactHandle,
+) -> u32
+    ensures { FillsFromTwoInOrder (AreOfSeed seed) IsDifferenceIn (IsDifferenceRefusal seed) (valid_order ordered)
+        first.old.value second.old.value out.old.value result out.new.value }
+{
+    first
+        .reader()
+        .difference_in(alloc, second.reader(), seed, ordered, out.owned())
 }

@@ -63,7 +63,7 @@ pub extern "C" fn kcp_images_difference(
     ensures { WritesDifference seed first.now second.now out.old length.old result out.new length.new }
 {
     match read_both(alloc, first, second, seed) {
-        Ok((a, b)) => match a.difference(alloc, seed, &b) {
+        Ok((a, b)) => match a.difference(alloc, seed, &b, true) {
             Ok(sketch) => put_image(&sketch, out, length),
             // Both are of this seed, so only memory is refused.
             Err(_) => OUT_OF_MEMORY,

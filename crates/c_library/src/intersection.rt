@@ -1,9 +1,11 @@
 //! Intersections of theta sketches.
 ghost use Rattle.std.specs.Prelude.{◌≡◌, None};
-ghost use Rattle.c_handles.specs.Calls.{OnObject, OnObjectWith, Fills, FillsFrom};
-ghost use Rattle.c_objects.specs.Intersection.{IsNewIntersection, MeetsShown, IsSeedRefusal, IsIntersectionResult};
-ghost use Rattle.c_objects.specs.Intersection.{IsNoResult};
-ghost use Rattle.c_objects.specs.Thetas.{OfSketch, OfCompact, OfImage};
+ghost use Rattle.c_handles.specs.Calls.{OnObject, OnObjectWith, Fills, FillsFrom, FillsInOrder, WritesSome};
+ghost use Rattle.c_objects.specs.Intersection.{IsNewIntersection, MeetsShown, MeetsUpdatable, IsSeedRefusal};
+ghost use Rattle.c_objects.specs.Intersection.{IsIntersectionResult, IsNoResult};
+ghost use Rattle.c_objects.specs.Orders.{IsIntersectionResultIn};
+ghost use Rattle.c_objects.specs.Settings.{valid_order};
+ghost use Rattle.c_objects.specs.Thetas.{OfCompact, OfImage};
 
 use c_handles::handles::{CompactHandle, IntersectionHandle};
 use c_handles::readers::{CompactReader, IntersectionReader, ThetaReader};
@@ -41,8 +43,7 @@ pub extern "C" fn kcp_intersection_add(
     intersection: &mut IntersectionHandle,
     sketch: &mut ThetaReader,
 ) -> u32
-    ensures { OnObjectWith (OfSketch MeetsShown) sketch.old.value intersection.old.value result
-        intersection.new.value }
+    ensures { OnObjectWith MeetsUpdatable sketch.old.value intersection.old.value result intersection.new.value }
 {
     intersection.owned().add(sketch.reader())
 }
@@ -86,5 +87,35 @@ pub extern "C" fn kcp_intersection_result(
 ) -> u32
     ensures { FillsFrom IsIntersectionResult IsNoResult intersection.old.value out.old.value result out.new.value }
 {
-    intersection.reader().compact(alloc, out.owned())
+    intersection.reader().compact(alloc, true, out.owned())
+}
+
+/// Makes the intersection's value as a compact sketch, as `kcp_intersection_result` does, ordered or not, as in
+/// `kcp_theta_compact_with`.
+///
+/// Refused as `kcp_intersection_result` is, and with `INVALID_ARGUMENT` if `ordered` is neither 0 nor 1.
+#[unsafe(no_mangle)]
+pub extern "C" fn kcp_intersection_result_with(
+    alloc: Global,
+    intersection: &mut IntersectionReader,
+    ordered: u32,
+    out: &mut CompactHandle,
+) -> u32
+    ensures { FillsInOrder IsIntersectionResultIn IsNoResult (valid_order ordered) intersection.old.value
+        out.old.value result out.new.value }
+{
+    intersection
+        .reader()
+        .compact_in(alloc, ordered, out.owned())
+}
+
+/// Writes how many bytes the hashes of the intersection's value take, 8 for each; 0 before the first sketch.
+#[unsafe(no_mangle)]
+pub extern "C" fn kcp_intersection_estimated_size(
+    intersection: &mut IntersectionReader,
+    bytes: &mut u64,
+) -> u32
+    ensures { WritesSome intersection.old.value bytes.old result bytes.new }
+{
+    intersection.reader().estimated_size(bytes)
 }

@@ -62,6 +62,9 @@ mod difference;
 // Images alone
 mod images;
 
+// Images alone: why they are not read
+mod flaws;
+
 // Tuple sketches of sums
 mod sums;
 

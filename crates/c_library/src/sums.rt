@@ -3,9 +3,11 @@ ghost use Rattle.std.specs.Prelude.{◌≡◌, true, None, is_some, option_map};
 ghost use Rattle.core_laws.specs.declared.TheConstants.{MAX_THETA};
 ghost use Rattle.c_objects.specs.Bounds.{is_state, wide};
 ghost use Rattle.c_objects.specs.Buffer.{WritesOf};
-ghost use Rattle.c_handles.specs.Calls.{OnObject, Fills, FillsFrom, WritesValue};
+ghost use Rattle.c_handles.specs.Calls.{OnObject, Fills, FillsFrom, FillsFromTwo, FillsInOrder, WritesValue, WritesSome};
 ghost use Rattle.c_objects.specs.CompactSums.{CopiesEntriesOf};
-ghost use Rattle.c_objects.specs.Settings.{IsSettingsRefusal, IsNewRefusal, valid_factor};
+ghost use Rattle.c_objects.specs.Orders.{IsCompactFormOfSumsIn, IsDifferenceOfSumsSketches};
+ghost use Rattle.c_objects.specs.Orders.{IsSumsSketchDifferenceRefusal, AreSumsSketchesOfSeed};
+ghost use Rattle.c_objects.specs.Settings.{IsSettingsRefusal, IsNewRefusal, valid_factor, valid_order};
 ghost use Rattle.c_objects.specs.Status.{IsMemoryRefusal};
 ghost use Rattle.c_objects.specs.Sums.{IsNewSums, IsSameSums, AddsValue, AddsAtBytes, AddsAtNumber, TrimsSums};
 ghost use Rattle.c_objects.specs.Sums.{ResetsSums, sums_state, sums_total, IsImageOfSums, IsCompactFormOfSums};
@@ -147,7 +149,7 @@ pub extern "C" fn kcp_sums_compact(
     ensures { FillsFrom IsCompactFormOfSums (λ _. IsMemoryRefusal) sums.old.value out.old.value result
         out.new.value }
 {
-    sums.reader().compact(alloc, out.owned())
+    sums.reader().compact(alloc, true, out.owned())
 }
 
 /// Writes the total of a sketch, the sum of its sums, below 2^96. The estimate of the total of all values that were
@@ -175,4 +177,43 @@ pub extern "C" fn kcp_sums_entries(
         Some(object) => put_entries_of(object, hashes, values, count),
         None => INVALID_ARGUMENT,
     }
+}
+
+/// Makes the sketch's compact form, ordered or not, as `kcp_theta_compact_with` does.
+#[unsafe(no_mangle)]
+pub extern "C" fn kcp_sums_compact_with(
+    alloc: Global,
+    sums: &mut SumsReader,
+    ordered: u32,
+    out: &mut CompactSumsHandle,
+) -> u32
+    ensures { FillsInOrder IsCompactFormOfSumsIn (λ _. IsMemoryRefusal) (valid_order ordered) sums.old.value
+        out.old.value result out.new.value }
+{
+    sums.reader().compact_in(alloc, ordered, out.owned())
+}
+
+/// Makes the difference of two sketches, as `kcp_sums_difference` does of compact ones.
+#[unsafe(no_mangle)]
+pub extern "C" fn kcp_sums_updatable_difference(
+    alloc: Global,
+    first: &mut SumsReader,
+    second: &mut SumsReader,
+    seed: u64,
+    out: &mut CompactSumsHandle,
+) -> u32
+    ensures { FillsFromTwo (AreSumsSketchesOfSeed seed) (IsDifferenceOfSumsSketches true)
+        (IsSumsSketchDifferenceRefusal seed) first.old.value second.old.value out.old.value result out.new.value }
+{
+    first
+        .reader()
+        .difference(alloc, second.reader(), seed, true, out.owned())
+}
+
+/// Writes how many bytes the slots of the sketch take, as `kcp_theta_estimated_size` does; a slot takes 24.
+#[unsafe(no_mangle)]
+pub extern "C" fn kcp_sums_estimated_size(sums: &mut SumsReader, bytes: &mut u64) -> u32
+    ensures { WritesSome sums.old.value bytes.old result bytes.new }
+{
+    sums.reader().estimated_size(bytes)
 }

@@ -1,10 +1,12 @@
 //! Intersections of tuple sketches of sums.
 ghost use Rattle.std.specs.Prelude.{◌≡◌, None};
-ghost use Rattle.c_handles.specs.Calls.{OnObject, OnObjectWith, Fills, FillsFrom};
-ghost use Rattle.c_objects.specs.CompactSums.{OfSums, OfCompactSums, OfSumsImage};
+ghost use Rattle.c_handles.specs.Calls.{OnObject, OnObjectWith, Fills, FillsFrom, FillsInOrder, WritesSome};
+ghost use Rattle.c_objects.specs.CompactSums.{OfCompactSums, OfSumsImage};
 ghost use Rattle.c_objects.specs.Intersection.{IsSeedRefusal};
-ghost use Rattle.c_objects.specs.SumsIntersection.{IsNewSumsIntersection, MeetsShownSums, IsSumsIntersectionResult};
-ghost use Rattle.c_objects.specs.SumsIntersection.{IsNoSumsResult};
+ghost use Rattle.c_objects.specs.Orders.{IsSumsIntersectionResultIn};
+ghost use Rattle.c_objects.specs.Settings.{valid_order};
+ghost use Rattle.c_objects.specs.SumsIntersection.{IsNewSumsIntersection, MeetsShownSums, MeetsUpdatableSums};
+ghost use Rattle.c_objects.specs.SumsIntersection.{IsSumsIntersectionResult, IsNoSumsResult};
 
 use c_handles::handles::{CompactSumsHandle, SumsIntersectionHandle};
 use c_handles::readers::{CompactSumsReader, SumsIntersectionReader, SumsReader};
@@ -45,7 +47,7 @@ pub extern "C" fn kcp_sums_intersection_add(
     intersection: &mut SumsIntersectionHandle,
     sketch: &mut SumsReader,
 ) -> u32
-    ensures { OnObjectWith (OfSums MeetsShownSums) sketch.old.value intersection.old.value result
+    ensures { OnObjectWith MeetsUpdatableSums sketch.old.value intersection.old.value result
         intersection.new.value }
 {
     intersection.owned().add(sketch.reader())
@@ -88,5 +90,33 @@ pub extern "C" fn kcp_sums_intersection_result(
     ensures { FillsFrom IsSumsIntersectionResult IsNoSumsResult intersection.old.value out.old.value result
         out.new.value }
 {
-    intersection.reader().compact(alloc, out.owned())
+    intersection.reader().compact(alloc, true, out.owned())
+}
+
+/// Makes the intersection's value as a compact sketch, ordered or not, as `kcp_intersection_result_with` does.
+#[unsafe(no_mangle)]
+pub extern "C" fn kcp_sums_intersection_result_with(
+    alloc: Global,
+    intersection: &mut SumsIntersectionReader,
+    ordered: u32,
+    out: &mut CompactSumsHandle,
+) -> u32
+    ensures { FillsInOrder IsSumsIntersectionResultIn IsNoSumsResult (valid_order ordered) intersection.old.value
+        out.old.value result out.new.value }
+{
+    intersection
+        .reader()
+        .compact_in(alloc, ordered, out.owned())
+}
+
+/// Writes how many bytes the hashes and sums of the intersection's value take, 16 for each pair; 0 before the first
+/// sketch.
+#[unsafe(no_mangle)]
+pub extern "C" fn kcp_sums_intersection_estimated_size(
+    intersection: &mut SumsIntersectionReader,
+    bytes: &mut u64,
+) -> u32
+    ensures { WritesSome intersection.old.value bytes.old result bytes.new }
+{
+    intersection.reader().estimated_size(bytes)
 }

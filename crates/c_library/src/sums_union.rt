@@ -2,11 +2,12 @@
 ghost use Rattle.std.specs.Prelude.{◌≡◌, None};
 ghost use Rattle.core_laws.specs.declared.TheConstants.{MAX_THETA};
 ghost use Rattle.c_objects.specs.Buffer.{WritesOf};
-ghost use Rattle.c_objects.specs.CompactSums.{OfSums, OfCompactSums, OfSumsImage};
-ghost use Rattle.c_handles.specs.Calls.{OnObject, OnObjectWith, Fills, FillsFrom};
-ghost use Rattle.c_objects.specs.Settings.{IsSettingsRefusal, IsNewRefusal};
-ghost use Rattle.c_objects.specs.SumsUnion.{IsNewSumsUnion, AddsShownSums, IsSumsUnionResult, IsSumsUnionImage};
-ghost use Rattle.c_objects.specs.SumsUnion.{IsSumsResultRefusal, LowersSumsUnion, ResetsSumsUnion};
+ghost use Rattle.c_objects.specs.CompactSums.{OfCompactSums, OfSumsImage};
+ghost use Rattle.c_handles.specs.Calls.{OnObject, OnObjectWith, Fills, FillsFrom, FillsInOrder, WritesSome};
+ghost use Rattle.c_objects.specs.Orders.{IsSumsUnionResultIn};
+ghost use Rattle.c_objects.specs.Settings.{IsSettingsRefusal, IsNewRefusal, valid_order};
+ghost use Rattle.c_objects.specs.SumsUnion.{IsNewSumsUnion, AddsShownSums, AddsUpdatableSums, IsSumsUnionResult};
+ghost use Rattle.c_objects.specs.SumsUnion.{IsSumsUnionImage, IsSumsResultRefusal, LowersSumsUnion, ResetsSumsUnion};
 
 use c_handles::handles::{CompactSumsHandle, SumsUnionHandle};
 use c_handles::readers::{CompactSumsReader, SumsReader, SumsUnionReader};
@@ -66,7 +67,7 @@ pub extern "C" fn kcp_sums_union_free(alloc: Global, union: &mut SumsUnionHandle
 /// union has failed until it is reset.
 #[unsafe(no_mangle)]
 pub extern "C" fn kcp_sums_union_add(union: &mut SumsUnionHandle, sketch: &mut SumsReader) -> u32
-    ensures { OnObjectWith (OfSums AddsShownSums) sketch.old.value union.old.value result union.new.value }
+    ensures { OnObjectWith AddsUpdatableSums sketch.old.value union.old.value result union.new.value }
 {
     union.owned().add(sketch.reader())
 }
@@ -105,7 +106,7 @@ pub extern "C" fn kcp_sums_union_result(
 ) -> u32
     ensures { FillsFrom IsSumsUnionResult IsSumsResultRefusal union.old.value out.old.value result out.new.value }
 {
-    union.reader().compact(alloc, out.owned())
+    union.reader().compact(alloc, true, out.owned())
 }
 
 /// Writes the image of that sketch, refused as `kcp_sums_union_result` is.
@@ -138,4 +139,26 @@ pub extern "C" fn kcp_sums_union_lower_lg_k(union: &mut SumsUnionHandle, lg_k: u
         Some(object) => lower(object, lg_k),
         None => INVALID_ARGUMENT,
     }
+}
+
+/// Makes the union's value as a compact sketch, ordered or not, as `kcp_union_result_with` does.
+#[unsafe(no_mangle)]
+pub extern "C" fn kcp_sums_union_result_with(
+    alloc: Global,
+    union: &mut SumsUnionReader,
+    ordered: u32,
+    out: &mut CompactSumsHandle,
+) -> u32
+    ensures { FillsInOrder IsSumsUnionResultIn IsSumsResultRefusal (valid_order ordered) union.old.value
+        out.old.value result out.new.value }
+{
+    union.reader().compact_in(alloc, ordered, out.owned())
+}
+
+/// Writes how many bytes the slots of the union take, as `kcp_sums_estimated_size` does.
+#[unsafe(no_mangle)]
+pub extern "C" fn kcp_sums_union_estimated_size(union: &mut SumsUnionReader, bytes: &mut u64) -> u32
+    ensures { WritesSome union.old.value bytes.old result bytes.new }
+{
+    union.reader().estimated_size(bytes)
 }

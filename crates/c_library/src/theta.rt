@@ -3,10 +3,13 @@ ghost use Rattle.std.specs.Prelude.{◌≡◌, true, None, Some, is_some, option
 ghost use Rattle.core_laws.specs.declared.TheConstants.{MAX_THETA};
 ghost use Rattle.c_objects.specs.Bounds.{is_state};
 ghost use Rattle.c_objects.specs.Buffer.{WritesOf};
-ghost use Rattle.c_handles.specs.Calls.{OnObject, Fills, FillsFrom, WritesValue};
-ghost use Rattle.c_objects.specs.Settings.{IsSettingsRefusal, IsNewRefusal, valid_factor};
+ghost use Rattle.c_handles.specs.Calls.{OnObject, Fills, FillsFrom, FillsFromTwo, FillsInOrder, WritesValue, WritesSome};
+ghost use Rattle.c_objects.specs.Orders.{IsCompactFormIn, IsDifferenceOfSketches, IsSketchDifferenceRefusal};
+ghost use Rattle.c_objects.specs.Orders.{AreSketchesOfSeed};
+ghost use Rattle.c_objects.specs.Settings.{IsSettingsRefusal, IsNewRefusal, valid_factor, valid_order};
 ghost use Rattle.c_objects.specs.Status.{IsMemoryRefusal};
 ghost use Rattle.c_objects.specs.Thetas.{IsNewSketch, IsSameSketch, UpdatesHash, UpdatesNumber, UpdatesBytes};
+ghost use Rattle.c_objects.specs.Thetas.{InsertsHash};
 ghost use Rattle.c_objects.specs.Thetas.{CopiesHashesOf, UpdatesHashes, Trims, Resets, theta_state, IsImageOf, IsCompactForm};
 
 use c_handles::handles::{CompactHandle, ThetaHandle};
@@ -15,7 +18,7 @@ use c_objects::settings::factor_of;
 use c_objects::state::State;
 use c_objects::status::INVALID_ARGUMENT;
 use c_objects::theta::{
-    build, put_hashes_of, update_bytes, update_hash, update_hashes, update_number,
+    build, insert_hash, put_hashes_of, update_bytes, update_hash, update_hashes, update_number,
 };
 use std::alloc::Global;
 use theta_sketches::{MAX_THETA, ResizeFactor};
@@ -93,6 +96,21 @@ pub extern "C" fn kcp_theta_update_hash(sketch: &mut ThetaHandle, hash: u64) -> 
 {
     match sketch.owned().get() {
         Some(theta) => update_hash(theta, hash),
+        None => INVALID_ARGUMENT,
+    }
+}
+
+/// Updates a sketch with a hash, as `kcp_theta_update_hash` does, and writes the state after it, as
+/// `kcp_theta_state` does. If theta is as before the call, the hash was new exactly if one more is retained. Refused
+/// as `kcp_theta_update_hash` is.
+#[unsafe(no_mangle)]
+pub extern "C" fn kcp_theta_insert_hash(sketch: &mut ThetaHandle, hash: u64, out: &mut State) -> u32
+    ensures inserts { OnObject (InsertsHash hash out.old out.new) sketch.old.value result sketch.new.value }
+    ensures none { sketch.old.value ≡ None → out.new ≡ out.old }
+    ensures usable { result ≡ 0 → is_state out.new.retained out.new.theta ≡ true }
+{
+    match sketch.owned().get() {
+        Some(theta) => insert_hash(theta, hash, out),
         None => INVALID_ARGUMENT,
     }
 }
@@ -180,7 +198,7 @@ pub extern "C" fn kcp_theta_compact(
 ) -> u32
     ensures { FillsFrom IsCompactForm (λ _. IsMemoryRefusal) sketch.old.value out.old.value result out.new.value }
 {
-    sketch.reader().compact(alloc, out.owned())
+    sketch.reader().compact(alloc, true, out.owned())
 }
 
 /// Writes the sketch's hashes, each once in no particular order, to an array of `room` numbers, and their number to
@@ -199,4 +217,46 @@ pub extern "C" fn kcp_theta_hashes(
         Some(theta) => put_hashes_of(theta, hashes, count),
         None => INVALID_ARGUMENT,
     }
+}
+
+/// Makes the sketch's compact form, as `kcp_theta_compact` does. If `ordered` is 1, its hashes ascend; if it is 0, they
+/// are in any order, which is faster, and it is ordered only if it is empty or has one hash at the greatest theta.
+///
+/// Refused with `INVALID_ARGUMENT` if `ordered` is neither 0 nor 1, and with `OUT_OF_MEMORY`.
+#[unsafe(no_mangle)]
+pub extern "C" fn kcp_theta_compact_with(
+    alloc: Global,
+    sketch: &mut ThetaReader,
+    ordered: u32,
+    out: &mut CompactHandle,
+) -> u32
+    ensures { FillsInOrder IsCompactFormIn (λ _. IsMemoryRefusal) (valid_order ordered) sketch.old.value
+        out.old.value result out.new.value }
+{
+    sketch.reader().compact_in(alloc, ordered, out.owned())
+}
+
+/// Makes the difference of two sketches, as `kcp_difference` does of compact ones.
+#[unsafe(no_mangle)]
+pub extern "C" fn kcp_theta_difference(
+    alloc: Global,
+    first: &mut ThetaReader,
+    second: &mut ThetaReader,
+    seed: u64,
+    out: &mut CompactHandle,
+) -> u32
+    ensures { FillsFromTwo (AreSketchesOfSeed seed) (IsDifferenceOfSketches true) (IsSketchDifferenceRefusal seed)
+        first.old.value second.old.value out.old.value result out.new.value }
+{
+    first
+        .reader()
+        .difference(alloc, second.reader(), seed, true, out.owned())
+}
+
+/// Writes how many bytes the slots of the sketch take, 8 for each of 32 to 2^(lg_k + 1) slots, free ones included.
+#[unsafe(no_mangle)]
+pub extern "C" fn kcp_theta_estimated_size(sketch: &mut ThetaReader, bytes: &mut u64) -> u32
+    ensures { WritesSome sketch.old.value bytes.old result bytes.new }
+{
+    sketch.reader().estimated_size(bytes)
 }

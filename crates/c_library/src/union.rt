@@ -1,17 +1,21 @@
 //! Unions of theta sketches.
-ghost use Rattle.std.specs.Prelude.{◌≡◌, None};
+ghost use Rattle.std.specs.Prelude.{◌≡◌, true, None, is_some};
+ghost use Rattle.core_laws.specs.declared.TheConstants.{MAX_THETA};
 ghost use Rattle.c_objects.specs.Buffer.{WritesOf};
-ghost use Rattle.c_handles.specs.Calls.{OnObject, OnObjectWith, Fills, FillsFrom};
-ghost use Rattle.c_objects.specs.Settings.{IsSettingsRefusal};
+ghost use Rattle.c_handles.specs.Calls.{OnObject, OnObjectWith, Fills, FillsFrom, FillsInOrder, WritesSome};
+ghost use Rattle.c_objects.specs.Orders.{IsUnionResultIn};
+ghost use Rattle.c_objects.specs.Settings.{IsSettingsRefusal, IsNewRefusal, valid_factor, valid_order};
 ghost use Rattle.c_objects.specs.Thetas.{OfCompact, OfImage};
 ghost use Rattle.c_objects.specs.Union.{IsNewUnion, AddsShown, AddsUpdatable, IsUnionResult, IsUnionImage};
 ghost use Rattle.c_objects.specs.Union.{IsResultRefusal, LowersUnion, ResetsUnion};
 
 use c_handles::handles::{CompactHandle, UnionHandle};
 use c_handles::readers::{CompactReader, ThetaReader, UnionReader};
+use c_objects::settings::factor_of;
 use c_objects::status::INVALID_ARGUMENT;
 use c_objects::union::{build, lower};
 use std::alloc::Global;
+use theta_sketches::{MAX_THETA, ResizeFactor};
 
 /// Makes a union of 2^`lg_k` nominal entries. Its value has the hashes of all its sketches below their least theta;
 /// if these are more than k = 2^`lg_k`, the k least, and its theta is the (k+1)th.
@@ -19,9 +23,32 @@ use std::alloc::Global;
 /// Refused as `kcp_theta_new` is.
 #[unsafe(no_mangle)]
 pub extern "C" fn kcp_union_new(alloc: Global, union: &mut UnionHandle, lg_k: u32, seed: u64) -> u32
-    ensures { Fills (IsNewUnion lg_k seed) (IsSettingsRefusal lg_k seed) union.old.value result union.new.value }
+    ensures { Fills (IsNewUnion lg_k MAX_THETA seed) (IsSettingsRefusal lg_k seed) union.old.value result
+        union.new.value }
 {
-    union.owned().put(alloc, build(alloc, lg_k, seed))
+    union.owned().put(alloc, build(alloc, lg_k, ResizeFactor::X8, MAX_THETA, seed))
+}
+
+/// Makes a union with a resize factor and a starting theta, as `kcp_theta_new_with` makes a sketch.
+#[unsafe(no_mangle)]
+pub extern "C" fn kcp_union_new_with(
+    alloc: Global,
+    union: &mut UnionHandle,
+    lg_k: u32,
+    seed: u64,
+    resize_factor: u32,
+    starting_theta: u64,
+) -> u32
+    ensures made { Fills (IsNewUnion lg_k starting_theta seed) (IsNewRefusal lg_k resize_factor starting_theta seed)
+        union.old.value result union.new.value }
+    ensures factor { result ≡ 0 → is_some (valid_factor resize_factor) ≡ true }
+{
+    match factor_of(resize_factor) {
+        Some(factor) => union
+            .owned()
+            .put(alloc, build(alloc, lg_k, factor, starting_theta, seed)),
+        None => INVALID_ARGUMENT,
+    }
 }
 
 /// Frees the union of a handle, if it has one.
@@ -72,7 +99,7 @@ pub extern "C" fn kcp_union_result(
 ) -> u32
     ensures { FillsFrom IsUnionResult IsResultRefusal union.old.value out.old.value result out.new.value }
 {
-    union.reader().compact(alloc, out.owned())
+    union.reader().compact(alloc, true, out.owned())
 }
 
 /// Writes the image of that sketch, refused as `kcp_union_result` is.
@@ -104,4 +131,29 @@ pub extern "C" fn kcp_union_lower_lg_k(union: &mut UnionHandle, lg_k: u32) -> u3
         Some(object) => lower(object, lg_k),
         None => INVALID_ARGUMENT,
     }
+}
+
+/// Makes the union's value as a compact sketch, as `kcp_union_result` does, ordered or not, as in
+/// `kcp_theta_compact_with`.
+///
+/// Refused as `kcp_union_result` is, and with `INVALID_ARGUMENT` if `ordered` is neither 0 nor 1.
+#[unsafe(no_mangle)]
+pub extern "C" fn kcp_union_result_with(
+    alloc: Global,
+    union: &mut UnionReader,
+    ordered: u32,
+    out: &mut CompactHandle,
+) -> u32
+    ensures { FillsInOrder IsUnionResultIn IsResultRefusal (valid_order ordered) union.old.value out.old.value
+        result out.new.value }
+{
+    union.reader().compact_in(alloc, ordered, out.owned())
+}
+
+/// Writes how many bytes the slots of the union take, as `kcp_theta_estimated_size` does.
+#[unsafe(no_mangle)]
+pub extern "C" fn kcp_union_estimated_size(union: &mut UnionReader, bytes: &mut u64) -> u32
+    ensures { WritesSome union.old.value bytes.old result bytes.new }
+{
+    union.reader().estimated_size(bytes)
 }

@@ -1,6 +1,14 @@
+mod Begun
 mod Digits
+mod Gathered
 mod Inputs
 mod Lowering
 mod Merges
+mod Orders
 mod Parts
+mod Read
+mod Sampled
+mod SharedSums
+mod Summed
+mod SumsOrders
 mod Turns

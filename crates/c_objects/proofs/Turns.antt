@@ -18,7 +18,7 @@ module _ (hs vs : List ℕ) (start : Updatable (TupleEntry ℕ)) where
   pub all_added : (now : Updatable (TupleEntry ℕ)) → IsInTurn (length hs) now → AddsInTurn hs vs start 0 now (length hs)
   all_added now turn =
       let left : AddsInTurn (drop (length hs) hs) (drop (length hs) vs) now 0 now 0 =
-      subst (λ xs. AddsInTurn xs (drop (length hs) vs) now 0 now 0) (sym (drop_all (length hs) hs (omega arith))) (refl, refl, (refl, refl)) in
+      subst (λ xs. AddsInTurn xs (drop (length hs) vs) now 0 now 0) (sym (drop_all (length hs) hs (omega arith))) (refl, refl, (refl, refl, λ lg_k from seed stream is. is)) in
       subst (λ n. AddsInTurn hs vs start 0 now n) (omega arith) (turn 0 0 now left)
 
   module _ (at : ℕ) (now new : Updatable (TupleEntry ℕ)) (turn : IsInTurn at now) (first : at < length hs) (second : at < length vs) where

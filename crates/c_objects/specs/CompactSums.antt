@@ -13,6 +13,7 @@ use Rattle.totals.specs.Totals.{sum_of}
 use Rattle.tuple_sketches.specs.Image.{Reads, IsReadable, written}
 use Rattle.c_objects.specs.Status.{IsUnreadStatus}
 use Rattle.c_objects.specs.Sums.{sums_sketch}
+use Rattle.c_objects.specs.SumsStreams.{IsSumsReadAs}
 use Rattle.c_objects.specs.Thetas.{state_of}
 use Rattle.c_objects.specs.declared.compact_sums.CompactSums.{CompactSums}
 use Rattle.c_objects.specs.declared.state.State.{State}
@@ -30,9 +31,9 @@ IsSumsReadRefusal bytes seed status = IsUnreadStatus (IsReadable (SpellsNumber 8
 abbrev pub compact_sums_state : CompactSums → State
 compact_sums_state s = state_of s.sketch
 
--- the image of a sketch
+-- the image of a sketch, which is read as that sketch, and as no other
 abbrev pub IsCompactSumsImage : CompactSums → List ℕ → Type 0
-IsCompactSumsImage s image = image ≡ written (λ sum. to_le_bytes w64 sum) s.sketch
+IsCompactSumsImage s image = (image ≡ written (λ sum. to_le_bytes w64 sum) s.sketch) × IsSumsReadAs image s.sketch
 
 -- a copy of a sketch
 abbrev pub IsCopyOfSums : (old new : CompactSums) → Type 0

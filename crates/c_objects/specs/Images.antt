@@ -7,21 +7,23 @@ use Rattle.core_compact.specs.CompactState.{IsAnswer, compact_value}
 use Rattle.core_laws.specs.Entries.{hash_key, first_hash}
 use Rattle.core_laws.specs.Operators.{meet_next}
 use Rattle.core_laws.specs.Values.{Sketch}
-use Rattle.theta_sketches.specs.Image.{Reads, written}
+use Rattle.theta_sketches.specs.Image.{Reads}
 use Rattle.c_objects.specs.Buffer.{Writes}
 use Rattle.c_objects.specs.Intersection.{IsDifferenceOf}
-use Rattle.c_objects.specs.Thetas.{IsReadRefusal}
+use Rattle.c_objects.specs.Streams.{HasCommon}
+use Rattle.c_objects.specs.Thetas.{IsCompactImage, IsReadRefusal}
 use Rattle.c_objects.specs.declared.compact.CompactSketch.{CompactSketch}
 
 -- the value that two sketches have in common
 abbrev pub common_value : Sketch ℕ → Sketch ℕ → Sketch ℕ
 common_value a b = meet_next hash_key first_hash (Some (meet_next hash_key first_hash None a)) b
 
--- the intersection of two compact sketches, ordered
+-- the intersection of two compact sketches, ordered, which samples what their streams share
 abbrev pub IsIntersectionOf : (seed : ℕ) → (first second : CompactSketch) → CompactSketch → Type 0
 IsIntersectionOf seed first second s =
     IsAnswer hash_key (common_value (compact_value hash_key first.sketch) (compact_value hash_key second.sketch))
     (seed_hash seed) true s.sketch
+    × HasCommon first.sketch second.sketch s.sketch
 
 -- a sketch that isn't empty is of another seed
 abbrev pub IsOfAnotherSeed : (seed : ℕ) → CompactSketch → Type 0
@@ -32,7 +34,8 @@ abbrev pub IsIntersectionRefusal : (seed : ℕ) → (first second : CompactSketc
 IsIntersectionRefusal seed first second e =
     (e ≡ OutOfMemory) ⊎ ((e ≡ InvalidArgument) × ((seed_hash seed ≡ 0) ⊎ (IsOfAnotherSeed seed first ⊎ IsOfAnotherSeed seed second)))
 
--- the image of an operation on the sketches that two images begin with
+-- the image of the result of an operation on the sketches that two images begin with, which is read as this result, and as no
+-- other
 abbrev pub IsImageOfBoth : (IsResult : CompactSketch → CompactSketch → CompactSketch → Type 0)
     → (seed : ℕ)
     → (first second : List ℕ)
@@ -45,7 +48,7 @@ IsImageOfBoth IsResult seed first second image =
     × Reads first (seed_hash seed) a.sketch
     × Reads second (seed_hash seed) b.sketch
     × IsResult a b s
-    × (image ≡ written s.sketch)
+    × IsCompactImage s image
 
 -- the refusal of an operation on two images: one of them is read as no sketch of this seed, with 2, or memory, with 3
 abbrev pub IsRefusalOfEither : (seed : ℕ) → (first second : List ℕ) → (status : ℕ) → Type 0

@@ -2,9 +2,11 @@ pub mod Batch
 pub mod Bounds
 pub mod Buffer
 pub mod CompactSums
+pub mod Flaws
 pub mod Images
 pub mod Intersection
 pub mod Numerals
+pub mod Orders
 pub mod Quotients
 pub mod Settings
 pub mod Status
@@ -12,6 +14,7 @@ pub mod Streams
 pub mod Strings
 pub mod Sums
 pub mod SumsIntersection
+pub mod SumsStreams
 pub mod SumsUnion
 pub mod Texts
 pub mod Thetas

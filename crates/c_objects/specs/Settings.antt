@@ -1,5 +1,6 @@
 -- Settings of new objects.
-use Rattle.std.specs.Prelude.{ℕ, ◌==◌, ◌||◌, true, is_some, if◌then◌else◌, Option, Some, None}
+use Rattle.std.specs.Prelude.{ℕ, ◌≡◌, ◌≢◌, ◌==◌, ◌||◌, Bool, true, false, is_some, if◌then◌else◌, Option, Some, None}
+use Rattle.sketch_base.specs.Seed.{seed_hash}
 use Rattle.sketch_base.specs.declared.error.ErrorKind.{ErrorKind}
 use Rattle.sketch_base.specs.declared.error.ErrorKind.TheVariants.{InvalidArgument}
 use Rattle.core_laws.specs.Settings.{settings_refusal}
@@ -21,3 +22,16 @@ IsNewRefusal lg_k factor start seed status = IsRefusal (new_refusal lg_k factor 
 -- the refusal of a new object of the default resize factor, at the greatest theta
 abbrev pub IsSettingsRefusal : (lg_k seed status : ℕ) → Type 0
 IsSettingsRefusal lg_k seed status = IsRefusal (settings_refusal lg_k MAX_THETA seed) true status
+
+-- the hash of a seed was written, with status 0; a seed whose hash is 0 is refused with 1, and nothing is written
+abbrev pub WritesSeedHash : (seed before status after : ℕ) → Type 0
+WritesSeedHash seed before status after =
+    (seed_hash seed ≢ 0 → (status ≡ 0) × (after ≡ seed_hash seed)) × (seed_hash seed ≡ 0 → (status ≡ 1) × (after ≡ before))
+
+-- the order that a number asks for: whether a sketch is to be ordered
+abbrev pub valid_order : ℕ → Option Bool
+valid_order n = if n == 0 then Some false else (if n == 1 then Some true else None)
+
+-- an order as a number
+abbrev pub order_number : (ordered : Bool) → ℕ
+order_number ordered = if ordered then 1 else 0

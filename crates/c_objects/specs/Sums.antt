@@ -1,7 +1,7 @@
 -- Calls on tuple sketches whose summaries are sums of 64 bits.
-use Rattle.std.specs.Prelude.{◌≡◌, ◌≢◌, ◌^◌, ℕ, List, true, false, nat_lt, length, IsTrue, None}
+use Rattle.std.specs.Prelude.{◌≡◌, ◌≢◌, ◌<◌, ◌^◌, ℕ, List, [], ◌∷◌, true, false, nat_lt, length, IsTrue, None}
 use Rattle.std.specs.Int.{w64, to_le_bytes}
-use Rattle.sketch_base.specs.Seed.{hash_of}
+use Rattle.sketch_base.specs.Seed.{hash_of, seed_hash}
 use Rattle.core_compact.specs.CompactState.{Compact, IsAnswer}
 use Rattle.core_laws.specs.Insertion.{upsert_refusal, upsert_allocates}
 use Rattle.core_policies.specs.Sums.{adds}
@@ -13,6 +13,7 @@ use Rattle.totals.specs.Totals.{sum_of}
 use Rattle.tuple_sketches.specs.Image.{written}
 use Rattle.tuple_sketches.specs.Sketch.{sketch_state}
 use Rattle.c_objects.specs.Status.{IsRefusal}
+use Rattle.c_objects.specs.SumsStreams.{IsSumsOf, GivesValues, GivesNoValues, GivesTrimmedSums, GivesSumsAnew, HasSums, IsSumsReadAs}
 use Rattle.c_objects.specs.Thetas.{value_state}
 use Rattle.c_objects.specs.declared.compact_sums.CompactSums.{CompactSums}
 use Rattle.c_objects.specs.declared.state.State.{State}
@@ -22,13 +23,22 @@ use Rattle.c_objects.specs.declared.sums.SeededSums.{SeededSums}
 abbrev pub sums_sketch : SeededSums → Updatable (TupleEntry ℕ)
 sums_sketch t = sketch_state t.sketch
 
--- a new sketch: empty, with these settings
+-- a new sketch: empty, with these settings, of which the hash of the seed isn't 0, and given nothing
 abbrev pub IsNewSums : (lg_k start seed : ℕ) → SeededSums → Type 0
-IsNewSums lg_k start seed t = (t.seed ≡ seed) × ((sums_sketch t).empty ≡ true) × ((sums_sketch t).map ≡ empty_table lg_k start seed)
+IsNewSums lg_k start seed t =
+    (t.seed ≡ seed)
+    × ((sums_sketch t).empty ≡ true)
+    × ((sums_sketch t).map ≡ empty_table lg_k start seed)
+    × (0 < seed_hash seed)
+    × IsSumsOf lg_k start seed (sums_sketch t) []
 
--- a copy of a sketch: the same entries, theta and settings
+-- a copy of a sketch: the same entries, theta and settings, and given the same
 abbrev pub IsSameSums : (old new : SeededSums) → Type 0
-IsSameSums old new = (new.seed ≡ old.seed) × ((sums_sketch new).empty ≡ (sums_sketch old).empty) × ((sums_sketch new).map ≡ (sums_sketch old).map)
+IsSameSums old new =
+    (new.seed ≡ old.seed)
+    × ((sums_sketch new).empty ≡ (sums_sketch old).empty)
+    × ((sums_sketch new).map ≡ (sums_sketch old).map)
+    × GivesNoValues (sums_sketch old) (sums_sketch new)
 
 -- a value was added to the sum at a hash
 abbrev pub AcceptsValue : (hash value : ℕ) → (old new : Updatable (TupleEntry ℕ)) → Type 0
@@ -36,6 +46,7 @@ AcceptsValue hash value old new =
     (new.empty ≡ false)
     × (new.map ≡ after_insertion tuple_key hash (adds hash value) old.map)
     × (upsert_refusal tuple_key hash (adds hash value) old.map.kept ≡ None)
+    × GivesValues ((hash, value) ∷ []) old new
 
 -- the refusal of adding a value at a hash: a sum of 2^64 or more, or memory for a new hash below theta
 abbrev pub RefusesValue : (hash value : ℕ) → Updatable (TupleEntry ℕ) → (status : ℕ) → Type 0
@@ -52,7 +63,8 @@ AddsValue hash value old status new =
     × (status ≢ 0
     → RefusesValue hash value (sums_sketch old) status
     × ((sums_sketch new).empty ≡ (sums_sketch old).empty)
-    × ((sums_sketch new).map ≡ (sums_sketch old).map))
+    × ((sums_sketch new).map ≡ (sums_sketch old).map)
+    × GivesNoValues (sums_sketch old) (sums_sketch new))
 
 -- a value was added to the sum of a number, by the hash of its eight bytes, the lowest first
 abbrev pub AddsAtNumber : (number value : ℕ) → (old : SeededSums) → (status : ℕ) → (new : SeededSums) → Type 0
@@ -72,6 +84,8 @@ TrimsSums old status new =
     → (status ≡ 3)
     × ((sums_sketch new).map ≡ (sums_sketch old).map)
     × IsTrue (nat_lt (2 ^ (sums_sketch old).map.lg_nom) (length (sums_sketch old).map.kept.entries)))
+    × (status ≡ 0 → GivesTrimmedSums (sums_sketch old) (sums_sketch new))
+    × (status ≢ 0 → GivesNoValues (sums_sketch old) (sums_sketch new))
 
 -- the sketch is empty again, as when it was new
 abbrev pub ResetsSums : (old : SeededSums) → (status : ℕ) → (new : SeededSums) → Type 0
@@ -80,21 +94,26 @@ ResetsSums old status new =
     × (new.seed ≡ old.seed)
     × ((sums_sketch new).empty ≡ true)
     × ((sums_sketch new).map ≡ after_reset (sums_sketch old).map)
+    × GivesSumsAnew (sums_sketch old) (sums_sketch new)
 
 -- the state of a sketch
 abbrev pub sums_state : SeededSums → State
 sums_state t = value_state (sums_sketch t).empty (sketch_value (sums_sketch t))
 
--- the image of the ordered compact form of a sketch: after each hash its sum's eight bytes, the lowest first
+-- the image of the ordered compact form of a sketch, which is read as that form, and as no other: after each hash its sum's
+-- eight bytes, the lowest first
 abbrev pub IsImageOfSums : SeededSums → List ℕ → Type 0
 IsImageOfSums t image =
     (s : Compact (TupleEntry ℕ))
     × (image ≡ written (λ sum. to_le_bytes w64 sum) s)
     × IsAnswer tuple_key (sketch_value (sums_sketch t)) (sums_sketch t).map.seed_hash true s
+    × HasSums (sums_sketch t) s
+    × IsSumsReadAs image s
 
 -- the ordered compact form of a sketch
 abbrev pub IsCompactFormOfSums : SeededSums → CompactSums → Type 0
-IsCompactFormOfSums t s = IsAnswer tuple_key (sketch_value (sums_sketch t)) (sums_sketch t).map.seed_hash true s.sketch
+IsCompactFormOfSums t s =
+    IsAnswer tuple_key (sketch_value (sums_sketch t)) (sums_sketch t).map.seed_hash true s.sketch × HasSums (sums_sketch t) s.sketch
 
 -- the total of a sketch: the sum of its sums
 abbrev pub sums_total : SeededSums → ℕ

@@ -1,9 +1,9 @@
 -- Calls on intersections of tuple sketches of sums, and differences of these.
-use Rattle.std.specs.Prelude.{◌≡◌, ◌⊎◌, ℕ, List, true, None, Some}
+use Rattle.std.specs.Prelude.{◌≡◌, ◌⊎◌, ℕ, List, [], true, None, Some}
 use Rattle.sketch_base.specs.Seed.{seed_hash}
 use Rattle.sketch_base.specs.declared.error.ErrorKind.{ErrorKind}
 use Rattle.core_compact.specs.CompactState.{shown_of}
-use Rattle.core_laws.specs.Shown.{Shown}
+use Rattle.core_laws.specs.Shown.{Shown, shown_value}
 use Rattle.core_operators.specs.ANotB.{IsDifference}
 use Rattle.core_operators.specs.Intersection.{Intersection, new_intersection, intersect_refusal, IsAnswerIfAny}
 use Rattle.core_operators.specs.Intersection.{IsMet, IsIntersectError}
@@ -12,26 +12,34 @@ use Rattle.core_policies.specs.Sums.{unsigned_sum}
 use Rattle.core_policies.specs.declared.default_union.DefaultUnionPolicy.{DefaultUnionPolicy}
 use Rattle.core_slots.specs.Entry.{tuple_key}
 use Rattle.core_slots.specs.declared.entry.TupleEntry.{TupleEntry}
+use Rattle.c_objects.specs.CompactSums.{OfSums}
 use Rattle.c_objects.specs.Intersection.{IsNoValue, RefusesDifference, AcceptsDifference}
 use Rattle.c_objects.specs.Status.{status_of}
+use Rattle.c_objects.specs.Sums.{sums_sketch}
+use Rattle.c_objects.specs.SumsStreams.{IsSumsIntersectionOf, GivesSumsSample, GivesSumsSampleOf, HasSharedSums, HasLackingSums}
 use Rattle.c_objects.specs.declared.compact_sums.CompactSums.{CompactSums}
+use Rattle.c_objects.specs.declared.sums.SeededSums.{SeededSums}
 use Rattle.c_objects.specs.declared.sums_intersection.SeededSumsIntersection.{SeededSumsIntersection}
 
 -- what contracts see of an intersection
 abbrev pub sums_intersection_of : SeededSumsIntersection → Intersection (TupleEntry ℕ) (DefaultUnionPolicy ℕ)
 sums_intersection_of i = i.intersection.state
 
--- a new intersection, without a value
+-- a new intersection, without a value, and given nothing
 abbrev pub IsNewSumsIntersection : (seed : ℕ) → SeededSumsIntersection → Type 0
-IsNewSumsIntersection seed i = (i.seed ≡ seed) × (sums_intersection_of i ≡ new_intersection (seed_hash seed) (sums_intersection_of i).policy)
+IsNewSumsIntersection seed i =
+    (i.seed ≡ seed)
+    × (sums_intersection_of i ≡ new_intersection (seed_hash seed) (sums_intersection_of i).policy)
+    × IsSumsIntersectionOf (sums_intersection_of i) []
 
 -- a sketch that shows this was intersected: the new value has the hashes that both have, each with its two sums added, none of
--- which is 2^64 or more
+-- which is 2^64 or more; the intersection was given one sample more
 abbrev pub MeetsSums : Shown → (listing : List (TupleEntry ℕ)) → (old new : Intersection (TupleEntry ℕ) (DefaultUnionPolicy ℕ)) → Type 0
 MeetsSums shown listing old new =
     (intersect_refusal old shown ≡ None)
     × IsMet tuple_key (combined (unsigned_sum 64)) (combine_refused (unsigned_sum 64)) old new shown listing
     × (new ≡ record old { result = new.result })
+    × GivesSumsSample (shown_value tuple_key shown listing) old new
 
 -- the error of an intersection, which is unchanged: a sketch of another seed, memory, or two sums of one hash below the lesser
 -- theta that are 2^64 or more together
@@ -50,18 +58,29 @@ MeetsShownSums shown listing old status new =
     × (((status ≡ 0) × MeetsSums shown listing (sums_intersection_of old) (sums_intersection_of new))
     ⊎ ((e : ErrorKind) × (status ≡ status_of e) × IsSumsMeetError shown listing (sums_intersection_of old) (sums_intersection_of new) e))
 
--- the intersection's value as an ordered compact sketch
+-- a sketch that takes updates was intersected, as `MeetsShownSums` says; with status 0 the intersection was given what the
+-- sketch was given
+abbrev pub MeetsUpdatableSums : SeededSums → (old : SeededSumsIntersection) → (status : ℕ) → (new : SeededSumsIntersection) → Type 0
+MeetsUpdatableSums t old status new =
+    OfSums MeetsShownSums t old status new
+    × (status ≡ 0 → GivesSumsSampleOf (sums_sketch t) (sums_intersection_of old) (sums_intersection_of new))
+
+-- the intersection's value as an ordered compact sketch, which samples what its sketches share
 abbrev pub IsSumsIntersectionResult : SeededSumsIntersection → CompactSums → Type 0
-IsSumsIntersectionResult i s = IsAnswerIfAny tuple_key (sums_intersection_of i).result (sums_intersection_of i).seed_hash true (Some s.sketch)
+IsSumsIntersectionResult i s =
+    IsAnswerIfAny tuple_key (sums_intersection_of i).result (sums_intersection_of i).seed_hash true (Some s.sketch)
+    × HasSharedSums (sums_intersection_of i) s.sketch
 
 -- the refusal of the result: 1 before the first sketch, and otherwise 3
 abbrev pub IsNoSumsResult : SeededSumsIntersection → (status : ℕ) → Type 0
 IsNoSumsResult i status = IsNoValue (sums_intersection_of i).result status
 
--- the difference of two compact sketches, ordered: the entries of the first whose hashes the second lacks, with their sums
+-- the difference of two compact sketches, ordered: the entries of the first whose hashes the second lacks, with their sums, which
+-- sample what the first was given at other keys than the second
 abbrev pub IsDifferenceOfSums : (first second : CompactSums) → CompactSums → Type 0
 IsDifferenceOfSums first second s =
     IsDifference tuple_key (shown_of tuple_key first.sketch) first.sketch.entries (shown_of tuple_key second.sketch) true s.sketch
+    × HasLackingSums first.sketch second.sketch s.sketch
 
 -- the refusal of a difference
 abbrev pub IsSumsDifferenceRefusal : (seed : ℕ) → (first second : CompactSums) → (status : ℕ) → Type 0

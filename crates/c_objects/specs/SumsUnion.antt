@@ -4,7 +4,7 @@ use Rattle.std.specs.Int.{w64, to_le_bytes}
 use Rattle.sketch_base.specs.Seed.{seed_hash}
 use Rattle.sketch_base.specs.declared.error.ErrorKind.{ErrorKind}
 use Rattle.core_compact.specs.CompactState.{Compact, IsAnswer}
-use Rattle.core_laws.specs.Shown.{Shown}
+use Rattle.core_laws.specs.Shown.{Shown, shown_value}
 use Rattle.core_laws.specs.Values.{cut_value}
 use Rattle.core_operators.specs.Union.{Union, empty_union, union_value, update_refusal, failure, JoinsSummaries}
 use Rattle.core_operators.specs.Union.{UnitesSummaries, IsUpdateError, lower_refusal, lower_allocates, lowered}
@@ -15,20 +15,27 @@ use Rattle.core_slots.specs.Entry.{tuple_key}
 use Rattle.core_slots.specs.declared.entry.TupleEntry.{TupleEntry}
 use Rattle.tuple_sketches.specs.Image.{written}
 use Rattle.tuple_sketches.specs.Sketch.{union_state}
+use Rattle.c_objects.specs.CompactSums.{OfSums}
 use Rattle.c_objects.specs.Status.{status_of, IsRefusal}
+use Rattle.c_objects.specs.Sums.{sums_sketch}
+use Rattle.c_objects.specs.SumsStreams.{IsSumsUnionOfNone, GivesSumsPart, GivesSums, GivesLoweredSums, HasSumsUnion, IsSumsReadAs}
 use Rattle.c_objects.specs.declared.compact_sums.CompactSums.{CompactSums}
+use Rattle.c_objects.specs.declared.sums.SeededSums.{SeededSums}
 use Rattle.c_objects.specs.declared.sums_union.SeededSumsUnion.{SeededSumsUnion}
 
 -- what contracts see of a union
 abbrev pub sums_union_of : SeededSumsUnion → Union (TupleEntry ℕ) (DefaultUnionPolicy ℕ)
 sums_union_of u = union_state u.union
 
--- a new union, without sketches
+-- a new union, without sketches, and given nothing
 abbrev pub IsNewSumsUnion : (lg_k start seed : ℕ) → SeededSumsUnion → Type 0
-IsNewSumsUnion lg_k start seed u = (u.seed ≡ seed) × (sums_union_of u ≡ empty_union lg_k start (seed_hash seed) (sums_union_of u).policy)
+IsNewSumsUnion lg_k start seed u =
+    (u.seed ≡ seed)
+    × (sums_union_of u ≡ empty_union lg_k start (seed_hash seed) (sums_union_of u).policy)
+    × IsSumsUnionOfNone lg_k start (sums_union_of u)
 
 -- a sketch that shows this was merged: the union's value is united with the sketch's, in which the sums of one hash are added,
--- and only an Empty sketch changes nothing
+-- and an Empty sketch changes nothing; the union was given one part more
 abbrev pub MergesSums : Shown → (listing : List (TupleEntry ℕ)) → (old new : Union (TupleEntry ℕ) (DefaultUnionPolicy ℕ)) → Type 0
 MergesSums shown listing old new =
     (update_refusal old shown ≡ None)
@@ -36,6 +43,7 @@ MergesSums shown listing old new =
     × UnitesSummaries (unsigned_sum 64) old new shown listing
     × JoinsSummaries (unsigned_sum 64) old new shown listing
     × (new ≡ record old { empty = new.empty; content = new.content })
+    × GivesSumsPart (shown_value tuple_key shown listing) old new
 
 -- the error of a merge: the union refused the sketch and is unchanged; or memory was refused, or two sums of one hash are 2^64
 -- or more together, and the union has failed
@@ -50,32 +58,42 @@ AddsShownSums shown listing old status new =
     × (((status ≡ 0) × MergesSums shown listing (sums_union_of old) (sums_union_of new))
     ⊎ ((e : ErrorKind) × (status ≡ status_of e) × IsSumsMergeError shown listing (sums_union_of old) (sums_union_of new) e))
 
--- an ordered compact sketch of the union's value; the union hasn't failed
+-- a sketch that takes updates was merged, as `AddsShownSums` says; with status 0 the union was given what the sketch was given
+abbrev pub AddsUpdatableSums : SeededSums → (old : SeededSumsUnion) → (status : ℕ) → (new : SeededSumsUnion) → Type 0
+AddsUpdatableSums t old status new =
+    OfSums AddsShownSums t old status new × (status ≡ 0 → GivesSums (sums_sketch t) (sums_union_of old) (sums_union_of new))
+
+-- an ordered compact sketch of the union's value, with the least hashes of what the union was given and their sums; the union
+-- hasn't failed
 abbrev pub IsValueOfSums : SeededSumsUnion → Compact (TupleEntry ℕ) → Type 0
 IsValueOfSums u s =
-    (failure (sums_union_of u).failed ≡ None) × IsAnswer tuple_key (union_value tuple_key (sums_union_of u)) (sums_union_of u).seed_hash true s
+    (failure (sums_union_of u).failed ≡ None)
+    × IsAnswer tuple_key (union_value tuple_key (sums_union_of u)) (sums_union_of u).seed_hash true s
+    × HasSumsUnion (sums_union_of u) s
 
 -- the union's value as an ordered compact sketch
 abbrev pub IsSumsUnionResult : SeededSumsUnion → CompactSums → Type 0
 IsSumsUnionResult u s = IsValueOfSums u s.sketch
 
--- the image of the union's value, ordered
+-- the image of the union's value, ordered, which is read as that sketch, and as no other
 abbrev pub IsSumsUnionImage : SeededSumsUnion → List ℕ → Type 0
-IsSumsUnionImage u image = (s : Compact (TupleEntry ℕ)) × (image ≡ written (λ sum. to_le_bytes w64 sum) s) × IsValueOfSums u s
+IsSumsUnionImage u image =
+    (s : Compact (TupleEntry ℕ)) × (image ≡ written (λ sum. to_le_bytes w64 sum) s) × IsValueOfSums u s × IsSumsReadAs image s
 
 -- the refusal of the result: 5 if the union has failed, and otherwise 3
 abbrev pub IsSumsResultRefusal : SeededSumsUnion → (status : ℕ) → Type 0
 IsSumsResultRefusal u status = IsRefusal (failure (sums_union_of u).failed) (not (sums_union_of u).failed) status
 
--- the union was lowered to 2^lg_k nominal entries, with status 0: its value is cut to those; or it refused, with 5 if it has
--- failed, with 1 unless lg_k is from 4 to its own, and with 3, and is unchanged
+-- the union was lowered to 2^lg_k nominal entries, with status 0: its value is cut to those, and it was given nothing; or it
+-- refused, with 5 if it has failed, with 1 unless lg_k is from 4 to its own, and with 3, and is unchanged
 abbrev pub LowersSumsUnion : (lg_k : ℕ) → (old : SeededSumsUnion) → (status : ℕ) → (new : SeededSumsUnion) → Type 0
 LowersSumsUnion lg_k old status new =
     let before = sums_union_of old in let after = sums_union_of new in
     (new.seed ≡ old.seed)
     × (status ≡ 0 → (lower_refusal before lg_k ≡ None)
     × (after ≡ lowered tuple_key lg_k before)
-    × (union_value tuple_key after ≡ cut_value tuple_key (2 ^ lg_k) (union_value tuple_key before)))
+    × (union_value tuple_key after ≡ cut_value tuple_key (2 ^ lg_k) (union_value tuple_key before))
+    × GivesLoweredSums lg_k before after)
     × (status ≢ 0 → IsRefusal (lower_refusal before lg_k) (lower_allocates before lg_k) status × (after ≡ before))
 
 -- the union is as when it was new
@@ -84,3 +102,4 @@ ResetsSumsUnion old status new =
     (status ≡ 0)
     × (new.seed ≡ old.seed)
     × (sums_union_of new ≡ empty_union (sums_union_of old).lg_k (sums_union_of old).start (sums_union_of old).seed_hash (sums_union_of old).policy)
+    × IsSumsUnionOfNone (sums_union_of old).lg_k (sums_union_of old).start (sums_union_of new)

@@ -1,5 +1,5 @@
 -- Calls on theta sketches: by the sketch before, the arguments, the status and the sketch after.
-use Rattle.std.specs.Prelude.{◌≡◌, ◌≢◌, ◌⊎◌, ◌^◌, ◌==◌, ◌&&◌, ℕ, Bool, List, [], ◌∷◌, length, true, false, nat_lt, Option, Some, None}
+use Rattle.std.specs.Prelude.{◌≡◌, ◌≢◌, ◌⊎◌, ◌<◌, ◌^◌, ◌==◌, ◌&&◌, ℕ, Bool, List, [], ◌∷◌, length, true, false, nat_lt, Option, Some, None}
 use Rattle.std.specs.Prelude.{if◌then◌else◌, IsTrue}
 use Rattle.std.specs.Int.{w64, to_le_bytes}
 use Rattle.sketch_base.specs.Seed.{hash_of, seed_hash}
@@ -21,10 +21,14 @@ use Rattle.c_objects.specs.declared.compact.CompactSketch.{CompactSketch}
 use Rattle.c_objects.specs.declared.state.State.{State}
 use Rattle.c_objects.specs.declared.theta.SeededSketch.{SeededSketch}
 
--- a new sketch: empty, with these settings, and given nothing
+-- a new sketch: empty, with these settings, of which the hash of the seed isn't 0, and given nothing
 abbrev pub IsNewSketch : (lg_k start seed : ℕ) → SeededSketch → Type 0
 IsNewSketch lg_k start seed t =
-    (t.seed ≡ seed) × (t.sketch.empty ≡ true) × (t.sketch.map ≡ empty_table lg_k start seed) × IsSketchOf lg_k start seed t.sketch []
+    (t.seed ≡ seed)
+    × (t.sketch.empty ≡ true)
+    × (t.sketch.map ≡ empty_table lg_k start seed)
+    × (0 < seed_hash seed)
+    × IsSketchOf lg_k start seed t.sketch []
 
 -- a copy of a sketch: the same entries, theta and settings, and given the same
 abbrev pub IsSameSketch : (old new : SeededSketch) → Type 0
@@ -88,6 +92,11 @@ value_state empty v = record { retained = count_of v; theta = theta_of v; empty 
 abbrev pub theta_state : SeededSketch → State
 theta_state t = value_state t.sketch.empty (sketch_value t.sketch)
 
+-- a hash was inserted into a sketch, and with status 0 the state after it was written; otherwise nothing is written
+abbrev pub InsertsHash : (hash : ℕ) → (before after : State) → (old : SeededSketch) → (status : ℕ) → (new : SeededSketch) → Type 0
+InsertsHash hash before after old status new =
+    UpdatesHash hash old status new × (status ≡ 0 → after ≡ theta_state new) × (status ≢ 0 → after ≡ before)
+
 -- the state of a compact sketch, of either family
 abbrev pub state_of : {X : Type 0} → Compact X → State
 state_of s = record { retained = length s.entries; theta = s.theta; empty = (if s.empty then 1 else 0) }
@@ -95,7 +104,7 @@ state_of s = record { retained = length s.entries; theta = s.theta; empty = (if 
 abbrev pub compact_state : CompactSketch → State
 compact_state s = state_of s.sketch
 
--- the image of a compact sketch, which is read as that sketch alone
+-- the image of a compact sketch, which is read as that sketch, and as no other
 abbrev pub IsCompactImage : CompactSketch → List ℕ → Type 0
 IsCompactImage s image = (image ≡ written s.sketch) × IsReadAs image s.sketch
 
@@ -103,7 +112,7 @@ IsCompactImage s image = (image ≡ written s.sketch) × IsReadAs image s.sketch
 abbrev pub IsCopy : (old new : CompactSketch) → Type 0
 IsCopy old new = new ≡ old
 
--- the image of the ordered compact form of a sketch, which is read as that form alone
+-- the image of the ordered compact form of a sketch, which is read as that form, and as no other
 abbrev pub IsImageOf : SeededSketch → List ℕ → Type 0
 IsImageOf t image =
     (s : Compact ℕ)

@@ -6,25 +6,24 @@ use Rattle.core_compact.specs.CompactState.{Compact, IsAnswer, shown_of}
 use Rattle.core_laws.specs.Entries.{hash_key}
 use Rattle.core_laws.specs.Shown.{Shown, shown_value}
 use Rattle.core_laws.specs.Values.{cut_value}
-use Rattle.core_laws.specs.declared.TheConstants.{MAX_THETA}
 use Rattle.core_operators.specs.Union.{empty_union, union_value, update_refusal, failure, JoinsHashes, UnitesHashes}
 use Rattle.core_operators.specs.Union.{IsHashUpdateError, all_empty, update_all_refusal, JoinsAllHashes}
 use Rattle.core_operators.specs.Union.{UnitesAllHashes, IsHashUpdateAllError, lower_refusal, lower_allocates, lowered}
 use Rattle.theta_sketches.specs.Image.{written}
 use Rattle.c_objects.specs.Status.{status_of, IsRefusal}
-use Rattle.c_objects.specs.Streams.{IsUnionOfNone, GivesPart, GivesSketch, GivesParts, GivesLowered, HasUnion, IsReadAs}
+use Rattle.c_objects.specs.Streams.{IsUnionOfNone, GivesPart, GivesSketch, GivesBatch, GivesLowered, HasUnion, IsReadAs}
 use Rattle.c_objects.specs.Thetas.{OfSketch}
 use Rattle.c_objects.specs.declared.batch.SeededBatch.{SeededBatch}
 use Rattle.c_objects.specs.declared.compact.CompactSketch.{CompactSketch}
 use Rattle.c_objects.specs.declared.theta.SeededSketch.{SeededSketch}
 use Rattle.c_objects.specs.declared.union.SeededUnion.{SeededUnion}
 
--- a new union, without sketches
-abbrev pub IsNewUnion : (lg_k seed : ℕ) → SeededUnion → Type 0
-IsNewUnion lg_k seed u =
-    (u.seed ≡ seed) × (u.union ≡ empty_union lg_k MAX_THETA (seed_hash seed) u.union.policy) × IsUnionOfNone lg_k MAX_THETA u.union
+-- a new union, without sketches, that begins at a theta
+abbrev pub IsNewUnion : (lg_k start seed : ℕ) → SeededUnion → Type 0
+IsNewUnion lg_k start seed u =
+    (u.seed ≡ seed) × (u.union ≡ empty_union lg_k start (seed_hash seed) u.union.policy) × IsUnionOfNone lg_k start u.union
 
--- a sketch that shows this was merged, with status 0: the union's value is united with the sketch's, and only an Empty sketch
+-- a sketch that shows this was merged, with status 0: the union's value is united with the sketch's, and an Empty sketch
 -- changes nothing; the union was given one part more
 abbrev pub Merges : Shown → (listing : List ℕ) → (old new : SeededUnion) → Type 0
 Merges shown listing old new =
@@ -47,7 +46,7 @@ abbrev pub AddsUpdatable : SeededSketch → (old : SeededUnion) → (status : �
 AddsUpdatable t old status new = OfSketch AddsShown t old status new × (status ≡ 0 → GivesSketch t.sketch old.union new.union)
 
 -- sketches were merged together, with status 0: the union's value is united with all of theirs, as by one update after
--- another, and only if all are Empty nothing changes; the union was given these parts more
+-- another, and if all are Empty nothing changes; the union was given what these were given
 abbrev pub MergesAll : List (Compact ℕ) → (old new : SeededUnion) → Type 0
 MergesAll sketches old new =
     (update_all_refusal old.union (shown_of hash_key) sketches ≡ None)
@@ -55,7 +54,7 @@ MergesAll sketches old new =
     × UnitesAllHashes old.union new.union (shown_of hash_key) (λ s. s.entries) sketches
     × JoinsAllHashes old.union new.union (shown_of hash_key) (λ s. s.entries) sketches
     × (new.union ≡ record old.union { empty = new.union.empty; content = new.union.content })
-    × GivesParts sketches old.union new.union
+    × GivesBatch sketches old.union new.union
 
 -- sketches were merged; or the union refused them, with 1 if one that isn't Empty has another seed and with 5 if it has
 -- failed, and is unchanged; or memory was refused, with 3, and the union has failed, or is unchanged
@@ -79,7 +78,7 @@ IsValueOf u s =
 abbrev pub IsUnionResult : SeededUnion → CompactSketch → Type 0
 IsUnionResult u s = IsValueOf u s.sketch
 
--- the image of the union's value, ordered, which is read as that sketch alone
+-- the image of the union's value, ordered, which is read as that sketch, and as no other
 abbrev pub IsUnionImage : SeededUnion → List ℕ → Type 0
 IsUnionImage u image = (s : Compact ℕ) × (image ≡ written s) × IsValueOf u s × IsReadAs image s
 

@@ -1,12 +1,13 @@
 //! Compact theta sketches, which are immutable.
 ghost use Rattle.c_objects.specs.Buffer.{IsPut};
-ghost use Rattle.c_objects.specs.Intersection.{IsDifferenceOf, AreOfSeed, IsDifferenceRefusal};
+ghost use Rattle.c_objects.specs.Intersection.{AreOfSeed, IsDifferenceRefusal};
+ghost use Rattle.c_objects.specs.Orders.{IsDifferenceIn};
 ghost use Rattle.c_objects.specs.Status.{IsMemoryRefusal};
 ghost use Rattle.c_objects.specs.Thetas.{compact_state, IsCompactImage, IsCopy, IsReadFrom, IsReadRefusal};
 ghost use Rattle.c_objects.specs.declared.compact.CompactSketch.{CompactSketch};
 
 use crate::entries::put_hashes;
-use crate::objects::{CanCopy, FromImage, HasDifference, HasImage, HasState};
+use crate::objects::{CanCopy, FromImage, HasDifference, HasForm, HasImage, HasSize, HasState};
 use crate::state::State;
 use crate::status::{OUT_OF_MEMORY, status_of};
 use std::alloc::Global;
@@ -49,6 +50,9 @@ impl HasImage for CompactSketch {
     ghost no_image = { λ _. IsMemoryRefusal };
 
     fn image(&self) -> Result<Vec<u8>, u32> {
+        // Called for their clauses alone: the sketch keeps the laws of compact sketches, and its seed hash has 16
+        // bits.
+        let _ = (self.sketch.num_retained(), self.sketch.seed_hash());
         match self.sketch.serialize() {
             Ok(image) => Ok(image),
             Err(_) => Err(OUT_OF_MEMORY),
@@ -68,7 +72,9 @@ impl CanCopy for CompactSketch {
 }
 
 impl HasDifference for CompactSketch {
-    ghost is_difference = { IsDifferenceOf };
+    type Difference = CompactSketch;
+
+    ghost is_difference = { IsDifferenceIn };
 
     ghost are_of_seed = { AreOfSeed };
 
@@ -79,12 +85,18 @@ impl HasDifference for CompactSketch {
         alloc: Global,
         seed: u64,
         other: &CompactSketch,
+        ordered: bool,
     ) -> Result<CompactSketch, u32> {
         let difference = match ThetaANotB::with_seed(seed) {
             Ok(difference) => difference,
             Err(error) => return Err(status_of(error.kind())),
         };
-        match difference.compute(alloc, self.sketch.as_view(), other.sketch.as_view(), true) {
+        match difference.compute(
+            alloc,
+            self.sketch.as_view(),
+            other.sketch.as_view(),
+            ordered,
+        ) {
             Ok(sketch) => Ok(CompactSketch { sketch }),
             Err(error) => Err(status_of(error.kind())),
         }
@@ -98,4 +110,24 @@ pub fn put_hashes_of(sketch: &CompactSketch, out: &mut [u64], count: &mut u64) -
 {
     let number = sketch.sketch.num_retained();
     put_hashes(sketch.sketch.iter(), number, out, count)
+}
+
+impl HasForm for CompactSketch {
+    ghost seed_hash_of = { λ s. s.sketch.seed_hash };
+
+    ghost is_in_order = { λ s. s.sketch.ordered };
+
+    fn seed_hash(&self) -> u16 {
+        self.sketch.seed_hash()
+    }
+
+    fn is_ordered(&self) -> bool {
+        self.sketch.is_ordered()
+    }
+}
+
+impl HasSize for CompactSketch {
+    fn estimated_size(&self) -> u64 {
+        self.sketch.estimated_size() as u64
+    }
 }

@@ -1,17 +1,21 @@
 //! Compact tuple sketches whose summaries are sums of 64 bits.
 ghost use Rattle.c_objects.specs.Status.{IsMemoryRefusal};
-ghost use Rattle.c_objects.specs.SumsIntersection.{IsDifferenceOfSums, AreSumsOfSeed, IsSumsDifferenceRefusal};
+ghost use Rattle.c_objects.specs.Orders.{IsDifferenceOfSumsIn};
+ghost use Rattle.c_objects.specs.SumsIntersection.{AreSumsOfSeed, IsSumsDifferenceRefusal};
 ghost use Rattle.c_objects.specs.CompactSums.{IsCompactSumsImage, IsSumsReadFrom, IsSumsReadRefusal};
 ghost use Rattle.c_objects.specs.CompactSums.{compact_sums_state, compact_total, IsCopyOfSums, PutsEntries};
 ghost use Rattle.c_objects.specs.declared.compact_sums.CompactSums.{CompactSums};
 
 use crate::bounds::{Wide, split};
 use crate::entries::put_entries;
-use crate::objects::{CanCopy, FromImage, HasDifference, HasImage, HasState, HasTotal};
+use crate::objects::{
+    CanCopy, FromImage, HasDifference, HasForm, HasImage, HasSize, HasState, HasTotal,
+};
 use crate::state::State;
 use crate::status::{OUT_OF_MEMORY, status_of};
 use std::alloc::Global;
 use totals::sum_of;
+use tuple_sketches::laws::read_again;
 use tuple_sketches::{CompactTupleSketch, TupleANotB};
 
 /// A compact sketch of sums.
@@ -61,6 +65,10 @@ impl HasImage for CompactSums {
     ghost no_image = { λ _. IsMemoryRefusal };
 
     fn image(&self) -> Result<Vec<u8>, u32> {
+        read_again::<u64, Global>();
+        // Called for their clauses alone: the sketch keeps the laws of compact sketches, and its seed hash has 16
+        // bits.
+        let _ = (self.sketch.num_retained(), self.sketch.seed_hash());
         match self.sketch.serialize() {
             Ok(image) => Ok(image),
             Err(_) => Err(OUT_OF_MEMORY),
@@ -80,7 +88,9 @@ impl CanCopy for CompactSums {
 }
 
 impl HasDifference for CompactSums {
-    ghost is_difference = { IsDifferenceOfSums };
+    type Difference = CompactSums;
+
+    ghost is_difference = { IsDifferenceOfSumsIn };
 
     ghost are_of_seed = { AreSumsOfSeed };
 
@@ -91,12 +101,18 @@ impl HasDifference for CompactSums {
         alloc: Global,
         seed: u64,
         other: &CompactSums,
+        ordered: bool,
     ) -> Result<CompactSums, u32> {
         let difference = match TupleANotB::with_seed(seed) {
             Ok(difference) => difference,
             Err(error) => return Err(status_of(error.kind())),
         };
-        match difference.compute(alloc, self.sketch.as_view(), other.sketch.as_view(), true) {
+        match difference.compute(
+            alloc,
+            self.sketch.as_view(),
+            other.sketch.as_view(),
+            ordered,
+        ) {
             Ok(sketch) => Ok(CompactSums { sketch }),
             Err(error) => Err(status_of(error.kind())),
         }
@@ -115,4 +131,24 @@ pub fn put_entries_of(
 {
     let number = sketch.sketch.num_retained();
     put_entries(sketch.sketch.iter(), number, hashes, sums, count)
+}
+
+impl HasForm for CompactSums {
+    ghost seed_hash_of = { λ s. s.sketch.seed_hash };
+
+    ghost is_in_order = { λ s. s.sketch.ordered };
+
+    fn seed_hash(&self) -> u16 {
+        self.sketch.seed_hash()
+    }
+
+    fn is_ordered(&self) -> bool {
+        self.sketch.is_ordered()
+    }
+}
+
+impl HasSize for CompactSums {
+    fn estimated_size(&self) -> u64 {
+        self.sketch.estimated_size() as u64
+    }
 }

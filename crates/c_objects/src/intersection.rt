@@ -3,12 +3,13 @@ ghost use Rattle.std.specs.Prelude.{true, None, IfOk};
 ghost use Rattle.core_laws.specs.Refusal.{Refuses};
 ghost use Rattle.core_operators.specs.Intersection.{seed_refusal};
 ghost use Rattle.theta_sketches.specs.View.{view_shows, view_sequence};
-ghost use Rattle.c_objects.specs.Intersection.{IsNewIntersection, MeetsShown, IsIntersectionResult, IsNoResult};
-ghost use Rattle.c_objects.specs.Thetas.{OfSketch, OfCompact, OfImage};
+ghost use Rattle.c_objects.specs.Intersection.{IsNewIntersection, MeetsShown, MeetsUpdatable, IsNoResult};
+ghost use Rattle.c_objects.specs.Orders.{IsIntersectionResultIn};
+ghost use Rattle.c_objects.specs.Thetas.{OfCompact, OfImage};
 ghost use Rattle.c_objects.specs.declared.intersection.SeededIntersection.{SeededIntersection};
 
 use crate::compact::CompactSketch;
-use crate::objects::{Accepts, AcceptsImages, FromImage, HasCompact};
+use crate::objects::{Accepts, AcceptsImages, FromImage, HasCompact, HasSize};
 use crate::status::{INVALID_ARGUMENT, OK, OUT_OF_MEMORY, status_of};
 use crate::theta::SeededSketch;
 use sketch_base::Error;
@@ -42,7 +43,7 @@ fn add(object: &mut SeededIntersection, view: ThetaSketchView<'_, Global>) -> u3
 }
 
 impl Accepts<SeededSketch> for SeededIntersection {
-    ghost adds = { OfSketch MeetsShown };
+    ghost adds = { MeetsUpdatable };
 
     fn add(&mut self, sketch: &SeededSketch) -> u32 {
         add(self, sketch.sketch.as_view())
@@ -71,15 +72,21 @@ impl AcceptsImages for SeededIntersection {
 impl HasCompact for SeededIntersection {
     type Compact = CompactSketch;
 
-    ghost is_compact = { IsIntersectionResult };
+    ghost is_compact = { IsIntersectionResultIn };
 
     ghost no_compact = { IsNoResult };
 
-    fn compact(&self) -> Result<CompactSketch, u32> {
-        match self.intersection.to_sketch(true) {
+    fn compact(&self, ordered: bool) -> Result<CompactSketch, u32> {
+        match self.intersection.to_sketch(ordered) {
             Ok(Some(sketch)) => Ok(CompactSketch { sketch }),
             Ok(None) => Err(INVALID_ARGUMENT),
             Err(_) => Err(OUT_OF_MEMORY),
         }
+    }
+}
+
+impl HasSize for SeededIntersection {
+    fn estimated_size(&self) -> u64 {
+        self.intersection.estimated_size() as u64
     }
 }

@@ -10,6 +10,7 @@ pub mod buffer;
 pub mod compact;
 pub mod compact_sums;
 mod entries;
+pub mod flaws;
 pub mod hashes;
 pub mod images;
 pub mod intersection;

@@ -53,17 +53,17 @@ pub trait HasCompact {
     /// The compact sketch.
     type Compact: Drop;
 
-    ghost use Rattle.std.specs.Prelude.{ℕ};
+    ghost use Rattle.std.specs.Prelude.{ℕ, Bool};
 
-    /// Whether a sketch is its compact one, and whether a status is that of a refusal.
-    ghost is_compact: { Self → Self.Compact → Type 0 };
+    /// Whether a sketch is its compact one, ordered or not, and whether a status is that of a refusal.
+    ghost is_compact: { (ordered : Bool) → Self → Self.Compact → Type 0 };
 
     ghost no_compact: { Self → ℕ → Type 0 };
 
-    /// The compact sketch of the object, ordered, or the status of the refusal. Memory to keep the sketch may still
-    /// be refused, so status 3 is among those of this call even if it succeeds (clause `room`).
-    fn compact(&self) -> Result<Self::Compact, u32>
-        ensures made { IfOk result (is_compact self.now) }
+    /// The compact sketch of the object, ordered if asked for, or the status of the refusal. Memory to keep the sketch
+    /// may still be refused, so status 3 is among those of this call even if it succeeds (clause `room`).
+    fn compact(&self, ordered: bool) -> Result<Self::Compact, u32>
+        ensures made { IfOk result (is_compact ordered self.now) }
         ensures refused { IfErr result (no_compact self.now) }
         ensures room { OnOk result (no_compact self.now 3) };
 }
@@ -79,22 +79,31 @@ pub trait CanCopy: Drop {
         ensures refused { IfErr result (λ status. status ≡ 3) };
 }
 
-/// A compact sketch that can be subtracted from another.
+/// A sketch that can be subtracted from another.
 pub trait HasDifference: Drop {
-    ghost use Rattle.std.specs.Prelude.{ℕ};
+    /// The compact sketch that is the difference.
+    type Difference: Drop;
 
-    /// Whether a sketch is the difference of two, whether those two are of a seed as far as a difference checks that,
-    /// and whether a status is that of a refusal.
-    ghost is_difference: { Self → Self → Self → Type 0 };
+    ghost use Rattle.std.specs.Prelude.{ℕ, Bool};
+
+    /// Whether a sketch is the difference of two, ordered or not, whether those two are of a seed as far as a
+    /// difference checks that, and whether a status is that of a refusal.
+    ghost is_difference: { (ordered : Bool) → Self → Self → Self.Difference → Type 0 };
 
     ghost are_of_seed: { ℕ → Self → Self → Type 0 };
 
     ghost no_difference: { ℕ → Self → Self → ℕ → Type 0 };
 
-    /// The entries of this sketch whose hashes the other lacks, ordered, or the status of the refusal. Memory to keep
-    /// the sketch may still be refused (clause `room`).
-    fn difference(&self, alloc: Global, seed: u64, other: &Self) -> Result<Self, u32>
-        ensures made { IfOk result (is_difference self.now other.now) }
+    /// The entries of this sketch whose hashes the other lacks, ordered if asked for, or the status of the refusal.
+    /// Memory to keep the sketch may still be refused (clause `room`).
+    fn difference(
+        &self,
+        alloc: Global,
+        seed: u64,
+        other: &Self,
+        ordered: bool,
+    ) -> Result<Self::Difference, u32>
+        ensures made { IfOk result (is_difference ordered self.now other.now) }
         ensures accepted { OnOk result (are_of_seed seed self.now other.now) }
         ensures refused { IfErr result (no_difference seed self.now other.now) }
         ensures room { OnOk result (no_difference seed self.now other.now 3) };
@@ -163,4 +172,28 @@ pub trait FromImage: Drop {
         ensures read { IfOk result (is_read image.now seed) }
         ensures refused { IfErr result (is_unread image.now seed) }
         ensures room { OnOk result (is_unread image.now seed 3) };
+}
+
+/// A compact sketch, which has a seed hash and may be ordered.
+pub trait HasForm {
+    ghost use Rattle.std.specs.Prelude.{ℕ, Bool};
+
+    /// The hash of its seed, and whether its hashes are known to ascend.
+    ghost seed_hash_of: { Self → ℕ };
+
+    ghost is_in_order: { Self → Bool };
+
+    /// The hash of its seed, of 16 bits.
+    fn seed_hash(&self) -> u16
+        ensures { result ≡ seed_hash_of self.now };
+
+    /// Whether its hashes are known to ascend.
+    fn is_ordered(&self) -> bool
+        ensures { result ≡ is_in_order self.now };
+}
+
+/// An object whose entries take memory.
+pub trait HasSize {
+    /// Bytes taken by its entries, or by all slots of its table. No clause says how many.
+    fn estimated_size(&self) -> u64;
 }

@@ -2,9 +2,11 @@
 ghost use Rattle.std.specs.Prelude.{◌≡◌, ◌≤◌, ◌<◌, ◌^◌, option_map};
 ghost use Rattle.core_laws.specs.declared.TheConstants.{MAX_LG_K};
 ghost use Rattle.core_table.specs.ResizeFactor.{lg_of};
-ghost use Rattle.c_objects.specs.Settings.{valid_factor};
+ghost use Rattle.c_objects.specs.Settings.{valid_factor, valid_order, WritesSeedHash};
 
+use crate::status::{INVALID_ARGUMENT, OK};
 use core_laws::MAX_LG_K;
+use sketch_base::{ErrorKind, compute_seed_hash};
 use theta_sketches::ResizeFactor;
 
 /// The resize factor of a number, 1, 2, 4 or 8; `None` for any other number.
@@ -29,5 +31,29 @@ pub(crate) fn bounded_lg_k(lg_k: u32) -> u8
         MAX_LG_K + 1
     } else {
         lg_k as u8
+    }
+}
+
+/// Whether a number asks for an ordered sketch: 0 asks for none, 1 for one; `None` for any other number.
+pub fn order_of(number: u32) -> Option<bool>
+    ensures { result ≡ valid_order number }
+{
+    match number {
+        0 => Some(false),
+        1 => Some(true),
+        _ => None,
+    }
+}
+
+/// Writes the hash of a seed, from 1 to 65535. The status is `OK`, or `INVALID_ARGUMENT` if that hash is 0.
+pub fn put_seed_hash(seed: u64, out: &mut u32) -> u32
+    ensures { WritesSeedHash seed out.old result out.new }
+{
+    match compute_seed_hash(seed, ErrorKind::InvalidArgument) {
+        Ok(hash) => {
+            *out = hash as u32;
+            OK
+        }
+        Err(_) => INVALID_ARGUMENT,
     }
 }

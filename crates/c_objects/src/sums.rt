@@ -5,24 +5,29 @@ ghost use Rattle.core_laws.specs.Refusal.{Refuses};
 ghost use Rattle.core_laws.specs.Settings.{settings_refusal};
 ghost use Rattle.core_slots.specs.Entry.{tuple_key};
 ghost use Rattle.c_objects.specs.CompactSums.{PutsEntries};
+ghost use Rattle.c_objects.specs.Orders.{IsCompactFormOfSumsIn, IsDifferenceOfSumsSketches};
+ghost use Rattle.c_objects.specs.Orders.{IsSumsSketchDifferenceRefusal, AreSumsSketchesOfSeed};
 ghost use Rattle.c_objects.specs.Status.{IsMemoryRefusal};
 ghost use Rattle.c_objects.specs.Sums.{IsNewSums, IsSameSums, AddsValue, AddsAtBytes, AddsAtNumber, TrimsSums};
 ghost use Rattle.c_objects.specs.Sums.{ResetsSums, sums_sketch, sums_state, sums_total, IsImageOfSums};
-ghost use Rattle.c_objects.specs.Sums.{IsCompactFormOfSums};
 ghost use Rattle.c_objects.specs.declared.sums.SeededSums.{SeededSums};
 
 use crate::bounds::{Wide, split};
 use crate::compact_sums::CompactSums;
 use crate::entries::put_entries;
 use crate::hashes::{hash_of_bytes, hash_of_number};
-use crate::objects::{CanCopy, CanReset, CanTrim, HasCompact, HasImage, HasState, HasTotal};
+use crate::objects::{
+    CanCopy, CanReset, CanTrim, HasCompact, HasDifference, HasImage, HasSize, HasState, HasTotal,
+};
 use crate::state::State;
 use crate::status::{OK, OUT_OF_MEMORY, status_of};
 use core_laws::MAX_LG_K;
 use sketch_base::{Error, ErrorKind};
 use std::alloc::Global;
 use totals::sum_of;
-use tuple_sketches::{DefaultUpdatePolicy, ResizeFactor, TupleSketch, TupleSketchBuilder};
+use tuple_sketches::{
+    DefaultUpdatePolicy, ResizeFactor, TupleANotB, TupleSketch, TupleSketchBuilder,
+};
 
 /// A sketch of sums, and the seed of its hashes.
 #[derive(Drop)]
@@ -119,12 +124,12 @@ impl HasState for SeededSums {
 impl HasCompact for SeededSums {
     type Compact = CompactSums;
 
-    ghost is_compact = { IsCompactFormOfSums };
+    ghost is_compact = { IsCompactFormOfSumsIn };
 
     ghost no_compact = { λ _. IsMemoryRefusal };
 
-    fn compact(&self) -> Result<CompactSums, u32> {
-        match self.sketch.compact(true) {
+    fn compact(&self, ordered: bool) -> Result<CompactSums, u32> {
+        match self.sketch.compact(ordered) {
             Ok(sketch) => Ok(CompactSums { sketch }),
             Err(_) => Err(OUT_OF_MEMORY),
         }
@@ -147,7 +152,7 @@ impl HasImage for SeededSums {
     ghost no_image = { λ _. IsMemoryRefusal };
 
     fn image(&self) -> Result<Vec<u8>, u32> {
-        self.compact()?.image()
+        self.compact(true)?.image()
     }
 }
 
@@ -182,5 +187,43 @@ impl CanReset for SeededSums {
     fn reset(&mut self) -> u32 {
         self.sketch.reset();
         OK
+    }
+}
+
+impl HasSize for SeededSums {
+    fn estimated_size(&self) -> u64 {
+        self.sketch.estimated_size() as u64
+    }
+}
+
+impl HasDifference for SeededSums {
+    type Difference = CompactSums;
+
+    ghost is_difference = { IsDifferenceOfSumsSketches };
+
+    ghost are_of_seed = { AreSumsSketchesOfSeed };
+
+    ghost no_difference = { IsSumsSketchDifferenceRefusal };
+
+    fn difference(
+        &self,
+        alloc: Global,
+        seed: u64,
+        other: &SeededSums,
+        ordered: bool,
+    ) -> Result<CompactSums, u32> {
+        let difference = match TupleANotB::with_seed(seed) {
+            Ok(difference) => difference,
+            Err(error) => return Err(status_of(error.kind())),
+        };
+        match difference.compute(
+            alloc,
+            self.sketch.as_view(),
+            other.sketch.as_view(),
+            ordered,
+        ) {
+            Ok(sketch) => Ok(CompactSums { sketch }),
+            Err(error) => Err(status_of(error.kind())),
+        }
     }
 }

@@ -4,13 +4,14 @@ ghost use Rattle.core_laws.specs.Refusal.{Refuses};
 ghost use Rattle.core_operators.specs.Intersection.{seed_refusal};
 ghost use Rattle.core_slots.specs.Entry.{tuple_key};
 ghost use Rattle.core_state.specs.View.{shows, sequence};
-ghost use Rattle.c_objects.specs.CompactSums.{OfSums, OfCompactSums, OfSumsImage};
-ghost use Rattle.c_objects.specs.SumsIntersection.{IsNewSumsIntersection, MeetsShownSums, IsSumsIntersectionResult};
+ghost use Rattle.c_objects.specs.CompactSums.{OfCompactSums, OfSumsImage};
+ghost use Rattle.c_objects.specs.Orders.{IsSumsIntersectionResultIn};
+ghost use Rattle.c_objects.specs.SumsIntersection.{IsNewSumsIntersection, MeetsShownSums, MeetsUpdatableSums};
 ghost use Rattle.c_objects.specs.SumsIntersection.{IsNoSumsResult};
 ghost use Rattle.c_objects.specs.declared.sums_intersection.SeededSumsIntersection.{SeededSumsIntersection};
 
 use crate::compact_sums::CompactSums;
-use crate::objects::{Accepts, AcceptsImages, FromImage, HasCompact};
+use crate::objects::{Accepts, AcceptsImages, FromImage, HasCompact, HasSize};
 use crate::status::{INVALID_ARGUMENT, OK, OUT_OF_MEMORY, status_of};
 use crate::sums::SeededSums;
 use sketch_base::Error;
@@ -46,7 +47,7 @@ fn add(object: &mut SeededSumsIntersection, view: TupleSketchView<'_, u64>) -> u
 }
 
 impl Accepts<SeededSums> for SeededSumsIntersection {
-    ghost adds = { OfSums MeetsShownSums };
+    ghost adds = { MeetsUpdatableSums };
 
     fn add(&mut self, sketch: &SeededSums) -> u32 {
         add(self, sketch.sketch.as_view())
@@ -75,15 +76,21 @@ impl AcceptsImages for SeededSumsIntersection {
 impl HasCompact for SeededSumsIntersection {
     type Compact = CompactSums;
 
-    ghost is_compact = { IsSumsIntersectionResult };
+    ghost is_compact = { IsSumsIntersectionResultIn };
 
     ghost no_compact = { IsNoSumsResult };
 
-    fn compact(&self) -> Result<CompactSums, u32> {
-        match self.intersection.to_sketch(true) {
+    fn compact(&self, ordered: bool) -> Result<CompactSums, u32> {
+        match self.intersection.to_sketch(ordered) {
             Ok(Some(sketch)) => Ok(CompactSums { sketch }),
             Ok(None) => Err(INVALID_ARGUMENT),
             Err(_) => Err(OUT_OF_MEMORY),
         }
+    }
+}
+
+impl HasSize for SeededSumsIntersection {
+    fn estimated_size(&self) -> u64 {
+        self.intersection.estimated_size() as u64
     }
 }

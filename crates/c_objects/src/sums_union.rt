@@ -4,13 +4,14 @@ ghost use Rattle.core_laws.specs.Refusal.{Refuses};
 ghost use Rattle.core_laws.specs.Settings.{settings_refusal};
 ghost use Rattle.core_slots.specs.Entry.{tuple_key};
 ghost use Rattle.core_state.specs.View.{shows, sequence};
-ghost use Rattle.c_objects.specs.CompactSums.{OfSums, OfCompactSums, OfSumsImage};
-ghost use Rattle.c_objects.specs.SumsUnion.{IsNewSumsUnion, AddsShownSums, IsSumsUnionResult, IsSumsUnionImage};
+ghost use Rattle.c_objects.specs.CompactSums.{OfCompactSums, OfSumsImage};
+ghost use Rattle.c_objects.specs.Orders.{IsSumsUnionResultIn};
+ghost use Rattle.c_objects.specs.SumsUnion.{IsNewSumsUnion, AddsShownSums, AddsUpdatableSums, IsSumsUnionImage};
 ghost use Rattle.c_objects.specs.SumsUnion.{IsSumsResultRefusal, LowersSumsUnion, ResetsSumsUnion};
 ghost use Rattle.c_objects.specs.declared.sums_union.SeededSumsUnion.{SeededSumsUnion};
 
 use crate::compact_sums::CompactSums;
-use crate::objects::{Accepts, AcceptsImages, CanReset, FromImage, HasCompact, HasImage};
+use crate::objects::{Accepts, AcceptsImages, CanReset, FromImage, HasCompact, HasImage, HasSize};
 use crate::settings::bounded_lg_k;
 use crate::status::{OK, status_of};
 use crate::sums::SeededSums;
@@ -74,7 +75,7 @@ fn add(union: &mut SeededSumsUnion, view: TupleSketchView<'_, u64>) -> u32
 }
 
 impl Accepts<SeededSums> for SeededSumsUnion {
-    ghost adds = { OfSums AddsShownSums };
+    ghost adds = { AddsUpdatableSums };
 
     fn add(&mut self, sketch: &SeededSums) -> u32 {
         add(self, sketch.sketch.as_view())
@@ -103,12 +104,12 @@ impl AcceptsImages for SeededSumsUnion {
 impl HasCompact for SeededSumsUnion {
     type Compact = CompactSums;
 
-    ghost is_compact = { IsSumsUnionResult };
+    ghost is_compact = { IsSumsUnionResultIn };
 
     ghost no_compact = { IsSumsResultRefusal };
 
-    fn compact(&self) -> Result<CompactSums, u32> {
-        match self.union.to_sketch(true) {
+    fn compact(&self, ordered: bool) -> Result<CompactSums, u32> {
+        match self.union.to_sketch(ordered) {
             Ok(sketch) => Ok(CompactSums { sketch }),
             Err(error) => Err(status_of(error.kind())),
         }
@@ -134,5 +135,11 @@ impl CanReset for SeededSumsUnion {
     fn reset(&mut self) -> u32 {
         self.union.reset();
         OK
+    }
+}
+
+impl HasSize for SeededSumsUnion {
+    fn estimated_size(&self) -> u64 {
+        self.union.estimated_size() as u64
     }
 }

@@ -1,25 +1,31 @@
 //! Theta sketches that take updates.
-ghost use Rattle.std.specs.Prelude.{true, IfOk};
+ghost use Rattle.std.specs.Prelude.{◌≡◌, true, IfOk};
 ghost use Rattle.core_laws.specs.Entries.{hash_key};
 ghost use Rattle.core_laws.specs.Maps.{IsListing};
 ghost use Rattle.core_laws.specs.Refusal.{Refuses};
 ghost use Rattle.core_laws.specs.Settings.{settings_refusal};
+ghost use Rattle.c_objects.specs.Bounds.{is_state};
 ghost use Rattle.c_objects.specs.Buffer.{IsPut};
+ghost use Rattle.c_objects.specs.Orders.{IsCompactFormIn, IsDifferenceOfSketches, IsSketchDifferenceRefusal};
+ghost use Rattle.c_objects.specs.Orders.{AreSketchesOfSeed};
 ghost use Rattle.c_objects.specs.Status.{IsMemoryRefusal};
 ghost use Rattle.c_objects.specs.Thetas.{IsNewSketch, IsSameSketch, UpdatesHash, UpdatesNumber, UpdatesBytes};
-ghost use Rattle.c_objects.specs.Thetas.{UpdatesHashes, Trims, Resets, theta_state, IsImageOf, IsCompactForm};
+ghost use Rattle.c_objects.specs.Thetas.{InsertsHash};
+ghost use Rattle.c_objects.specs.Thetas.{UpdatesHashes, Trims, Resets, theta_state, IsImageOf};
 ghost use Rattle.c_objects.specs.declared.theta.SeededSketch.{SeededSketch};
 
 use crate::compact::CompactSketch;
 use crate::entries::put_hashes;
 use crate::hashes::{hash_of_bytes, hash_of_number};
-use crate::objects::{CanCopy, CanReset, CanTrim, HasCompact, HasImage, HasState};
+use crate::objects::{
+    CanCopy, CanReset, CanTrim, HasCompact, HasDifference, HasImage, HasSize, HasState,
+};
 use crate::state::State;
-use crate::status::{OK, OUT_OF_MEMORY};
+use crate::status::{OK, OUT_OF_MEMORY, status_of};
 use core_laws::MAX_LG_K;
 use sketch_base::{Error, ErrorKind};
 use std::alloc::Global;
-use theta_sketches::{ResizeFactor, ThetaSketch, ThetaSketchBuilder};
+use theta_sketches::{ResizeFactor, ThetaANotB, ThetaSketch, ThetaSketchBuilder};
 
 /// A sketch that takes updates, and the seed of its hashes.
 #[derive(Drop)]
@@ -62,6 +68,19 @@ pub fn update_hash(theta: &mut SeededSketch, hash: u64) -> u32
         Ok(()) => OK,
         Err(_) => OUT_OF_MEMORY,
     }
+}
+
+/// Updates a sketch with a hash, as `update_hash` does, and writes the state after it; if refused, nothing is written.
+#[inline(always)]
+pub fn insert_hash(theta: &mut SeededSketch, hash: u64, out: &mut State) -> u32
+    ensures inserts { InsertsHash hash out.old out.new theta.old result theta.new }
+    ensures usable { result ≡ 0 → is_state out.new.retained out.new.theta ≡ true }
+{
+    let status = update_hash(theta, hash);
+    if status == OK {
+        *out = theta.state();
+    }
+    status
 }
 
 /// Updates a sketch with a number, by the hash of its eight bytes, the lowest first. Refused as `update_hash` is.
@@ -119,12 +138,12 @@ impl HasState for SeededSketch {
 impl HasCompact for SeededSketch {
     type Compact = CompactSketch;
 
-    ghost is_compact = { IsCompactForm };
+    ghost is_compact = { IsCompactFormIn };
 
     ghost no_compact = { λ _. IsMemoryRefusal };
 
-    fn compact(&self) -> Result<CompactSketch, u32> {
-        match self.sketch.compact(true) {
+    fn compact(&self, ordered: bool) -> Result<CompactSketch, u32> {
+        match self.sketch.compact(ordered) {
             Ok(sketch) => Ok(CompactSketch { sketch }),
             Err(_) => Err(OUT_OF_MEMORY),
         }
@@ -137,7 +156,7 @@ impl HasImage for SeededSketch {
     ghost no_image = { λ _. IsMemoryRefusal };
 
     fn image(&self) -> Result<Vec<u8>, u32> {
-        self.compact()?.image()
+        self.compact(true)?.image()
     }
 }
 
@@ -172,5 +191,43 @@ impl CanReset for SeededSketch {
     fn reset(&mut self) -> u32 {
         self.sketch.reset();
         OK
+    }
+}
+
+impl HasSize for SeededSketch {
+    fn estimated_size(&self) -> u64 {
+        self.sketch.estimated_size() as u64
+    }
+}
+
+impl HasDifference for SeededSketch {
+    type Difference = CompactSketch;
+
+    ghost is_difference = { IsDifferenceOfSketches };
+
+    ghost are_of_seed = { AreSketchesOfSeed };
+
+    ghost no_difference = { IsSketchDifferenceRefusal };
+
+    fn difference(
+        &self,
+        alloc: Global,
+        seed: u64,
+        other: &SeededSketch,
+        ordered: bool,
+    ) -> Result<CompactSketch, u32> {
+        let difference = match ThetaANotB::with_seed(seed) {
+            Ok(difference) => difference,
+            Err(error) => return Err(status_of(error.kind())),
+        };
+        match difference.compute(
+            alloc,
+            self.sketch.as_view(),
+            other.sketch.as_view(),
+            ordered,
+        ) {
+            Ok(sketch) => Ok(CompactSketch { sketch }),
+            Err(error) => Err(status_of(error.kind())),
+        }
     }
 }

@@ -2,16 +2,16 @@
 ghost use Rattle.std.specs.Prelude.{true, IfOk};
 ghost use Rattle.core_laws.specs.Refusal.{Refuses};
 ghost use Rattle.core_laws.specs.Settings.{settings_refusal};
-ghost use Rattle.core_laws.specs.declared.TheConstants.{MAX_THETA};
 ghost use Rattle.theta_sketches.specs.View.{view_shows, view_sequence};
+ghost use Rattle.c_objects.specs.Orders.{IsUnionResultIn};
 ghost use Rattle.c_objects.specs.Thetas.{OfCompact, OfImage};
-ghost use Rattle.c_objects.specs.Union.{IsNewUnion, AddsShown, AddsUpdatable, AddsAll, AddsBatch, IsUnionResult};
+ghost use Rattle.c_objects.specs.Union.{IsNewUnion, AddsShown, AddsUpdatable, AddsAll, AddsBatch};
 ghost use Rattle.c_objects.specs.Union.{IsUnionImage, IsResultRefusal, LowersUnion, ResetsUnion};
 ghost use Rattle.c_objects.specs.declared.union.SeededUnion.{SeededUnion};
 
 use crate::batch::SeededBatch;
 use crate::compact::CompactSketch;
-use crate::objects::{Accepts, AcceptsImages, CanReset, FromImage, HasCompact, HasImage};
+use crate::objects::{Accepts, AcceptsImages, CanReset, FromImage, HasCompact, HasImage, HasSize};
 use crate::settings::bounded_lg_k;
 use crate::status::{OK, OUT_OF_MEMORY, status_of};
 use crate::theta::SeededSketch;
@@ -19,7 +19,9 @@ use core_laws::MAX_LG_K;
 use keys_sketches::views_of;
 use sketch_base::{Error, ErrorKind};
 use std::alloc::Global;
-use theta_sketches::{CompactThetaSketch, ThetaSketchView, ThetaUnion, ThetaUnionBuilder};
+use theta_sketches::{
+    CompactThetaSketch, ResizeFactor, ThetaSketchView, ThetaUnion, ThetaUnionBuilder,
+};
 
 /// A union, and the seed of its sketches.
 #[derive(Drop)]
@@ -28,17 +30,26 @@ pub struct SeededUnion {
     seed: u64,
 }
 
-/// A new union of 2^`lg_k` nominal entries, `lg_k` from 4 to 26. Refused with `InvalidArgument` if `lg_k` is out of
-/// range or the hash of the seed is 0, and with `OutOfMemory`.
-pub fn build(alloc: Global, lg_k: u32, seed: u64) -> Result<SeededUnion, Error>
-    ensures made { IfOk result (λ u. IsNewUnion lg_k seed u) }
-    ensures refused { Refuses result (settings_refusal lg_k MAX_THETA seed) true }
+/// A new union of 2^`lg_k` nominal entries, `lg_k` from 4 to 26, whose slots grow by a resize factor and which begins
+/// at a theta from 1 to `MAX_THETA`. Refused with `InvalidArgument` if a setting is out of range or the hash of the
+/// seed is 0, and with `OutOfMemory`.
+pub fn build(
+    alloc: Global,
+    lg_k: u32,
+    factor: ResizeFactor,
+    start: u64,
+    seed: u64,
+) -> Result<SeededUnion, Error>
+    ensures made { IfOk result (λ u. IsNewUnion lg_k start seed u) }
+    ensures refused { Refuses result (settings_refusal lg_k start seed) true }
 {
     if lg_k > MAX_LG_K as u32 {
         return Err(Error::new(ErrorKind::InvalidArgument));
     }
     let union = ThetaUnionBuilder::default()
         .lg_k(lg_k as u8)
+        .resize_factor(factor)
+        .starting_theta(start)
         .seed(seed)
         .build(alloc)?;
     Ok(SeededUnion { union, seed })
@@ -118,12 +129,12 @@ impl Accepts<SeededBatch> for SeededUnion {
 impl HasCompact for SeededUnion {
     type Compact = CompactSketch;
 
-    ghost is_compact = { IsUnionResult };
+    ghost is_compact = { IsUnionResultIn };
 
     ghost no_compact = { IsResultRefusal };
 
-    fn compact(&self) -> Result<CompactSketch, u32> {
-        match self.union.to_sketch(true) {
+    fn compact(&self, ordered: bool) -> Result<CompactSketch, u32> {
+        match self.union.to_sketch(ordered) {
             Ok(sketch) => Ok(CompactSketch { sketch }),
             Err(error) => Err(status_of(error.kind())),
         }
@@ -149,5 +160,11 @@ impl CanReset for SeededUnion {
     fn reset(&mut self) -> u32 {
         self.union.reset();
         OK
+    }
+}
+
+impl HasSize for SeededUnion {
+    fn estimated_size(&self) -> u64 {
+        self.union.estimated_size() as u64
     }
 }

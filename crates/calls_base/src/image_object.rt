@@ -1,14 +1,17 @@
-//! `images`: reading of images after their preamble.
-ghost use Rattle.std.specs.Prelude.{◌≤◌, length};
-ghost use Rattle.core_images.specs.Preamble.{IsWholeLayout};
+//! `images`: reading of images by their heads.
+ghost use Rattle.core_images.specs.Head.{IsWholeLayout};
 
-use calls_language::arguments::{half_number, hex_of, three_words};
+use calls_language::arguments::{hex_of, two_words};
 use calls_language::entries::{ShownEntry, put_state};
 use calls_language::object::{Call, Memory, Object};
 use calls_language::settings::no_settings;
-use calls_language::words::{Fault, small_number};
+use calls_language::words::{Fault, number};
+use sketch_base::ErrorKind;
 use std::alloc::{Allocator, Global};
-use theta_core::image::{ImageEntry, ImageLayout, flagged_layout, read_after_preamble};
+use theta_core::image::{
+    Flaw, ImageEntry, ImageLayout, ReadError, layout_of, read_after_preamble, reader_seed_hash,
+    theta_head, tuple_head,
+};
 use theta_core::{ThetaEntry, TupleEntry};
 
 /// A reader, which has no state but its memory.
@@ -17,30 +20,33 @@ pub struct ImagesObject<A> {
     alloc: A,
 }
 
-/// The layout of an image of version 3, which ends behind its preamble.
-fn layout_of(bytes: &[u8], longs: u8, seed_hash: u16) -> Option<ImageLayout>
-    requires whole { 8 ≤ length bytes.now }
-    requires low { 1 ≤ longs }
-    requires high { longs ≤ 3 }
+/// The layout of a theta image, or of a tuple image with summaries of eight bytes.
+fn layout_in(bytes: &[u8], is_tuple: bool, seed: u64) -> Result<ImageLayout, Flaw>
     ensures { IsWholeLayout bytes.now result }
 {
-    flagged_layout(bytes, longs, seed_hash)
+    let seed_hash = reader_seed_hash(seed);
+    if is_tuple {
+        let head = tuple_head(16, bytes);
+        return layout_of(seed_hash, bytes.len(), head);
+    }
+    let theta = theta_head(bytes);
+    layout_of(seed_hash, bytes.len(), theta)
 }
 
-/// Reads an image of version 3 with these preamble longs under a seed hash, and appends its state.
+/// Reads an image under a seed, and appends its state, or why it isn't read.
 fn put_read<E: ShownEntry + ImageEntry<A>, A: Allocator + Copy + Drop>(
     alloc: A,
     bytes: &[u8],
-    longs: u8,
-    seed_hash: u16,
+    is_tuple: bool,
+    seed: u64,
     answer: &mut String,
 ) -> Result<(), Fault> {
-    if bytes.len() < 8 || longs < 1 || longs > 3 {
-        return Err(Fault::Condition);
+    let layout = layout_in(bytes, is_tuple, seed);
+    match read_after_preamble::<E, A>(alloc, bytes, layout, reader_seed_hash(seed)) {
+        Ok(state) => put_state(answer, &state, false)?,
+        Err(ReadError::Flawed(flaw)) => write!(answer, "flawed {flaw:?}")?,
+        Err(ReadError::OutOfMemory) => return Err(Fault::Refused(ErrorKind::OutOfMemory)),
     }
-    let layout = layout_of(bytes, longs, seed_hash);
-    let state = read_after_preamble::<E, A>(alloc, bytes, layout, seed_hash)?;
-    put_state(answer, &state, false)?;
     Ok(())
 }
 
@@ -59,21 +65,14 @@ impl<A: Allocator + Copy + Drop> Object<A> for ImagesObject<A> {
         if call.verb == "see" {
             return self.see(answer);
         }
-        let (digits, longs, seed_hash) = three_words(call.argument)?;
+        let (digits, seed) = two_words(call.argument)?;
         let bytes = hex_of(memory.plain(), digits)?;
-        let longs = small_number(longs)?;
-        let seed_hash = half_number(seed_hash)?;
+        let seed = number(seed)?;
         match call.verb {
-            "read" => {
-                put_read::<ThetaEntry, A>(self.alloc, bytes.as_slice(), longs, seed_hash, answer)
+            "read" => put_read::<ThetaEntry, A>(self.alloc, bytes.as_slice(), false, seed, answer),
+            "read_u64" => {
+                put_read::<TupleEntry<u64>, A>(self.alloc, bytes.as_slice(), true, seed, answer)
             }
-            "read_u64" => put_read::<TupleEntry<u64>, A>(
-                self.alloc,
-                bytes.as_slice(),
-                longs,
-                seed_hash,
-                answer,
-            ),
             _ => Err(Fault::Unknown),
         }
     }

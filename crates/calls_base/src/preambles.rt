@@ -1,13 +1,12 @@
 //! The functions on the preambles of images.
-use calls_language::arguments::{
-    four_words, half_number, hex_of, put_number, three_words, word_number,
-};
+use calls_language::arguments::{four_words, hex_of, put_number, two_words, word_number};
 use calls_language::object::Call;
 use calls_language::shown::order_word;
 use calls_language::words::{Fault, number, order_flag, small_number};
 use std::alloc::{AllocError, Global};
 use theta_core::image::{
-    ImageLayout, Preamble, admitted, announced, count_at, flagged_layout, seed_hash_at, theta_at,
+    Flaw, Head, ImageLayout, Preamble, announced, count_at, count_of, flaw_of_image, is_followed,
+    layout_of, length_of, reader_seed_hash, seed_hash_at, theta_at, theta_head, tuple_head,
 };
 
 /// Appends a preamble.
@@ -23,11 +22,11 @@ fn put_preamble(answer: &mut String, preamble: Preamble) -> Result<(), AllocErro
 }
 
 /// Appends a layout.
-fn put_layout(answer: &mut String, layout: Option<ImageLayout>) -> Result<(), AllocError> {
+fn put_layout(answer: &mut String, layout: Result<ImageLayout, Flaw>) -> Result<(), AllocError> {
     match layout {
-        None => answer.push_str("none"),
-        Some(ImageLayout::Empty) => answer.push_str("empty"),
-        Some(ImageLayout::Filled(preamble)) => put_preamble(answer, preamble),
+        Err(_) => answer.push_str("none"),
+        Ok(ImageLayout::Empty) => answer.push_str("empty"),
+        Ok(ImageLayout::Filled(preamble)) => put_preamble(answer, preamble),
     }
 }
 
@@ -42,16 +41,47 @@ fn announced_of(argument: &str) -> Result<Preamble, Fault> {
     ))
 }
 
-/// Appends the layout of an image of version 3.
-fn put_flagged(answer: &mut String, plain: Global, argument: &str) -> Result<(), Fault> {
-    let (digits, longs, seed_hash) = three_words(argument)?;
-    let bytes = hex_of(plain, digits)?;
-    let longs = small_number(longs)?;
-    let seed_hash = half_number(seed_hash)?;
-    if bytes.len() < 8 || longs < 1 || longs > 3 {
-        return Err(Fault::Condition);
+/// Appends what the head of an image says: its length, the number of its entries, whether bytes follow it, its layout
+/// for a reader of the seed, and the flaw of bytes that aren't read as one image.
+fn put_head(
+    answer: &mut String,
+    bytes: &[u8],
+    head: Result<Head, Flaw>,
+    seed: u64,
+) -> Result<(), AllocError> {
+    match length_of(head) {
+        None => answer.push_str("none ")?,
+        Some(length) => write!(answer, "{length} ")?,
     }
-    put_layout(answer, flagged_layout(bytes.as_slice(), longs, seed_hash))?;
+    let count = count_of(head);
+    let word = if is_followed(bytes, head) {
+        "longer"
+    } else {
+        "alone"
+    };
+    write!(answer, "{count} {word} ")?;
+    let seed_hash = reader_seed_hash(seed);
+    put_layout(answer, layout_of(seed_hash, bytes.len(), head))?;
+    let flaw = flaw_of_image(bytes, seed_hash, head);
+    write!(answer, " {flaw:?}")
+}
+
+/// Appends what the preamble of an image says, of a theta sketch or of a tuple sketch with summaries of eight bytes.
+fn put_image(
+    answer: &mut String,
+    plain: Global,
+    argument: &str,
+    is_tuple: bool,
+) -> Result<(), Fault> {
+    let (digits, seed) = two_words(argument)?;
+    let bytes = hex_of(plain, digits)?;
+    let seed = number(seed)?;
+    let head = if is_tuple {
+        tuple_head(16, bytes.as_slice())
+    } else {
+        theta_head(bytes.as_slice())
+    };
+    put_head(answer, bytes.as_slice(), head, seed)?;
     Ok(())
 }
 
@@ -93,11 +123,8 @@ pub fn put(answer: &mut String, plain: Global, call: Call<'_>) -> Result<(), Fau
             put_preamble(answer, announced_of(argument)?)?;
             Ok(())
         }
-        "admitted" => {
-            put_layout(answer, admitted(announced_of(argument)?))?;
-            Ok(())
-        }
-        "layout" => put_flagged(answer, plain, argument),
+        "theta_image" => put_image(answer, plain, argument, false),
+        "tuple_image" => put_image(answer, plain, argument, true),
         _ => Err(Fault::Unknown),
     }
 }

@@ -93,7 +93,7 @@ fn plain_state<E: NamedEntry>(
         theta: words.theta,
         ordered: words.ordered,
     };
-    let layout = Some(ImageLayout::Filled(preamble));
+    let layout = Ok(ImageLayout::Filled(preamble));
     match read_after_preamble::<E, Global>(plain, bytes.as_slice(), layout, words.seed_hash) {
         Ok(state) => Ok(state),
         Err(_) => Err(Fault::Condition),

@@ -6,7 +6,7 @@ use calls_policies::Letters;
 use sketch_base::{Error, ErrorKind};
 use std::alloc::{Allocator, Global};
 use theta_sketches::CompactThetaSketch;
-use tuple_sketches::{CompactTupleSketch, TupleSummaryValue};
+use tuple_sketches::{CompactTupleSketch, DEFAULT_UPDATE_SEED, ReadError, TupleSummaryValue};
 
 /// The reader of images.
 #[derive(Drop)]
@@ -36,7 +36,36 @@ fn tuple_error<S: TupleSummaryValue<A> + Drop, A: Allocator + Clone + Drop>(
     CompactTupleSketch::<S, A>::deserialize(alloc, image).err()
 }
 
+/// The length of the image that bytes begin with: of a theta sketch, or of a tuple sketch of `u64`.
+fn length_of<A: Allocator + Clone + Drop>(
+    alloc: A,
+    image: &[u8],
+    is_tuple: bool,
+) -> Result<u64, ReadError> {
+    if is_tuple {
+        let sums = CompactTupleSketch::<u64, A>::read_with_seed(
+            alloc,
+            image,
+            DEFAULT_UPDATE_SEED,
+            8,
+        )?;
+        return Ok(sums.1);
+    }
+    let read = CompactThetaSketch::read_with_seed(alloc, image, DEFAULT_UPDATE_SEED)?;
+    Ok(read.1)
+}
+
 impl<A: Allocator + Copy + Drop> Reading<A> {
+    /// Appends the length of the image that bytes begin with, or why they begin with none.
+    fn put_length(&self, image: &[u8], is_tuple: bool, answer: &mut String) -> Result<(), Fault> {
+        match length_of(self.alloc, image, is_tuple) {
+            Ok(length) => write!(answer, "{length}")?,
+            Err(ReadError::Flawed(flaw)) => write!(answer, "flawed {flaw:?}")?,
+            Err(ReadError::OutOfMemory) => return Err(Fault::Refused(ErrorKind::OutOfMemory)),
+        }
+        Ok(())
+    }
+
     /// Why bytes are no image of the kind that a word names; none if they are one.
     fn error_of(&self, kind: &str, image: &[u8]) -> Result<Option<Error>, Fault> {
         match kind {
@@ -67,6 +96,9 @@ impl<A: Allocator + Copy + Drop> Object<A> for Reading<A> {
             return self.see(answer);
         }
         let image = bytes_of(memory.plain(), call.argument)?;
+        if call.verb == "theta_length" || call.verb == "u64_length" {
+            return self.put_length(image.as_slice(), call.verb == "u64_length", answer);
+        }
         let error = self.error_of(call.verb, image.as_slice())?;
         let amount = amount(memory, image.as_slice());
         let word = match error {

@@ -207,7 +207,7 @@ fn images<E: SketchEntry + Drop, F: SketchEntry + Drop, G: FnMut(E) -> F + Drop,
     ensures hashes { IfOk result (λ ys. map F.key ys.items ≡ map E.key entries.items) }
 {
     let mut images = Vec::new(alloc);
-    'call_at_each: for entry in entries {
+    for entry in entries {
         images.push(f(entry))?;
     }
     Ok(images)

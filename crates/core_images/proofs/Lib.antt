@@ -3,5 +3,6 @@ pub mod SpelledEntries
 pub mod ReadEntries
 pub mod ReadSummaries
 pub mod ImageLayouts
+pub mod Fronts
 pub mod ReadAgain
 mod Chunks

@@ -1,11 +1,14 @@
 -- The entries that a reader found, and those that it didn't find.
-use Rattle.std.proofs.Common.{◌≡◌, ℕ, ◌+◌, ◌*◌, ◌/◌, ◌<◌, ◌≤◌, ◌^◌, List, [], ◌∷◌, ◌++◌, length, drop, map, Some, sym, ap, ◌∙◌, subst, inl, inr, arith, append_assoc, length-append}
+use Rattle.std.proofs.Common.{◌≡◌, ℕ, ◌+◌, ◌*◌, ◌/◌, ◌<◌, ◌≤◌, ◌^◌, List, [], ◌∷◌, ◌++◌, length, drop, map, Ok, sym, ap, ◌∙◌, subst, inl, inr, arith, append_assoc, length-append}
 use Rattle.std.proofs.lemmas.Nat.{le-div}
 use Rattle.sketch_base.specs.declared.error.ErrorKind.{ErrorKind}
 use Rattle.core_compact.specs.CompactState.{Compact, shown_of}
-use Rattle.core_images.specs.Read.{IsRefused, LeavesOpen}
+use Rattle.core_images.specs.Read.{IsRefused, IsUnread, LeavesOpen}
 use Rattle.core_images.specs.Entry.{SpellsEach, Holds, state_after_preamble}
 use Rattle.core_images.specs.Check.{AreHashes}
+use Rattle.core_images.specs.declared.flaw.Flaw.{Flaw}
+use Rattle.core_images.specs.declared.flaw.ReadError.{ReadError}
+use Rattle.core_images.specs.declared.flaw.ReadError.TheVariants.{Flawed, OutOfMemory as NoMemory}
 use Rattle.core_laws.specs.Shown.{IsShown}
 use Rattle.core_images.specs.declared.preamble.ImageLayout.TheVariants.{Filled}
 use Rattle.core_images.specs.declared.preamble.Preamble.{Preamble}
@@ -16,8 +19,13 @@ use Rattle.core_images.proofs.AscendingTests.{hashes_from}
 pub refused_weaker : {P Q : Type 0} (e : ErrorKind) → (Q → P) → IsRefused e P → IsRefused e Q
 refused_weaker e f r = elim r [ inl memory ↦ inl memory | inr none ↦ inr (none.0, λ q. none.1 (f q)) ]
 
+-- .. and so if a flaw is returned
+pub unread_weaker : {P Q : Type 0} (flaw : Flaw) (e : ReadError) → (Q → P) → IsUnread P flaw e → IsUnread Q flaw e
+unread_weaker flaw NoMemory f r = tt
+unread_weaker flaw (Flawed found) f r = (r.0, λ q. r.1 (f q))
+
 module _ {X : Type 0} (Spells : List ℕ → X → Type 0) (least : ℕ) (is_long : (a : List ℕ) (x : X) → Spells a x → least ≤ length a) where
-  each_long : (xs : List X) (text : List ℕ) → SpellsEach Spells text xs → length xs * least ≤ length text
+  pub each_long : (xs : List X) (text : List ℕ) → SpellsEach Spells text xs → length xs * least ≤ length text
   each_long [] text s = omega arith
   each_long (x ∷ xs) text s =
       let joined = ap length s.2 ∙ length-append s.0 s.1 in
@@ -52,10 +60,10 @@ module _ {X : Type 0} (Spells : List ℕ → X → Type 0) (one : (a b u v : Lis
       (text ++ first, e ∙ ap (λ l. text ++ l) r ∙ sym (append_assoc text first left), each_more Spells one xs x text first s f, length-append xs (x ∷ []) ∙ ap (λ k. k + 1) count)
 
   module _ (key : X → ℕ) (bytes : List ℕ) (h : ℕ) (p : Preamble) where
-    pub content_of : (s : Compact X) × LeavesOpen key Spells bytes h (Some (Filled p)) s → (xs : List X) × Holds Spells (drop p.start bytes) p.count xs
+    pub content_of : (s : Compact X) × LeavesOpen key Spells bytes h (Ok (Filled p)) s → (xs : List X) × Holds Spells (drop p.start bytes) p.count xs
     content_of found = (found.1.0, found.1.2.content)
 
-    pub good_of : (xs : List X) → Holds Spells (drop p.start bytes) p.count xs → (s : Compact X) × LeavesOpen key Spells bytes h (Some (Filled p)) s → AreHashes p.theta p.ordered (map key xs)
+    pub good_of : (xs : List X) → Holds Spells (drop p.start bytes) p.count xs → (s : Compact X) × LeavesOpen key Spells bytes h (Ok (Filled p)) s → AreHashes p.theta p.ordered (map key xs)
     good_of xs content found =
         let same = holds_one Spells one (drop p.start bytes) p.count found.1.0 xs found.1.2.content content in
         let P : List X → Type 0 = λ ys. IsShown (shown_of key (state_after_preamble p h ys)) in

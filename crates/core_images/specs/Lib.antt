@@ -1,4 +1,5 @@
 pub mod Preamble
+pub mod Head
 pub mod Entry
 pub mod Check
 pub mod Read

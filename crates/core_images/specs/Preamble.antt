@@ -1,11 +1,8 @@
--- The preamble of an image, before its entries: its fields, and how it is read.
-use Rattle.std.specs.Prelude.{ℕ, ◌==◌, Bool, not, List, take, drop, slice_index, bit_and, ◌*◌, ◌≡◌, ◌≤◌, length}
-use Rattle.std.specs.Prelude.{nat_lt, if◌then◌else◌, ⊤, ◌<◌, ◌&&◌, ◌||◌, nat_le, Option, Some, None}
+-- The preamble of an image, before its entries: its fields.
+use Rattle.std.specs.Prelude.{ℕ, ◌==◌, Bool, not, List, take, drop, slice_index, bit_and, ◌*◌, ◌≡◌, ◌≤◌, ◌&&◌, length}
 use Rattle.sketch_base.specs.Bytes.{number}
 use Rattle.core_laws.specs.declared.TheConstants.{MAX_THETA}
 use Rattle.core_images.specs.declared.preamble.Preamble.{Preamble}
-use Rattle.core_images.specs.declared.preamble.ImageLayout.{ImageLayout}
-use Rattle.core_images.specs.declared.preamble.ImageLayout.TheVariants.{Empty, Filled}
 
 -- the number in the n bytes from offset i, the lowest byte first
 abbrev pub number_at : (n : ℕ) → List ℕ → (i : ℕ) → ℕ
@@ -48,21 +45,6 @@ theta_at bytes = number_at 8 bytes 16
 abbrev pub announced : (longs count theta : ℕ) → (ordered : Bool) → Preamble
 announced longs count theta ordered = record { start = 8 * longs; count = count; theta = theta; ordered = ordered }
 
--- a preamble whose theta is from 1 to MAX_THETA
-unfoldable pub admitted : Preamble → Option ImageLayout
-admitted p = if nat_lt 0 p.theta && nat_le p.theta MAX_THETA then Some (Filled p) else None
-
--- the layout of version 3, after its first three bytes
-unfoldable pub flagged_layout : List ℕ → (longs h : ℕ) → Option ImageLayout
-flagged_layout bytes longs h =
-    if is_empty bytes then Some Empty
-    else (if not (seed_hash_at bytes == h) || nat_lt (length bytes) (8 * longs) then None
-    else (if longs == 1 then Some (Filled (announced 1 1 MAX_THETA (is_ordered bytes)))
-    else (if longs == 2 then Some (Filled (announced 2 (count_at bytes) MAX_THETA (is_ordered bytes)))
-    else admitted (announced 3 (count_at bytes) (theta_at bytes) (is_ordered bytes)))))
-
--- the bytes have the whole preamble, and its theta is from 1 to MAX_THETA
-abbrev pub IsWholeLayout : List ℕ → Option ImageLayout → Type 0
-IsWholeLayout bytes None = ⊤
-IsWholeLayout bytes (Some Empty) = ⊤
-IsWholeLayout bytes (Some (Filled p)) = (p.start ≤ length bytes) × (0 < p.theta) × (p.theta ≤ MAX_THETA)
+-- a preamble of no entries at the greatest theta: without flags, it means the empty sketch
+abbrev pub is_vacant : Preamble → Bool
+is_vacant p = p.count == 0 && p.theta == MAX_THETA

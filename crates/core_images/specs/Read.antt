@@ -1,11 +1,14 @@
 -- Which bytes are read as which state, in any family, and what a reader returns.
-use Rattle.std.specs.Prelude.{◌≡◌, ◌⊎◌, List, ℕ, Result, Ok, Err, true, false, slice_index, Option, Some, None}
+use Rattle.std.specs.Prelude.{◌≡◌, ◌⊎◌, ⊤, List, ℕ, Result, Ok, Err, true, false, slice_index}
 use Rattle.sketch_base.specs.declared.error.ErrorKind.{ErrorKind}
-use Rattle.sketch_base.specs.declared.error.ErrorKind.TheVariants.{OutOfMemory, InvalidData}
+use Rattle.sketch_base.specs.declared.error.ErrorKind.TheVariants.{InvalidArgument, InvalidData, OutOfMemory, Policy, Failed}
 use Rattle.core_compact.specs.CompactState.{Compact, empty_compact}
 use Rattle.core_images.specs.Entry.{HasEntries, state_after_preamble}
 use Rattle.core_laws.specs.declared.TheConstants.{MAX_THETA}
 use Rattle.core_images.specs.Preamble.{Begins, is_empty, is_ordered, seed_hash_at, count_at, theta_at, announced}
+use Rattle.core_images.specs.declared.flaw.Flaw.{Flaw}
+use Rattle.core_images.specs.declared.flaw.ReadError.{ReadError}
+use Rattle.core_images.specs.declared.flaw.ReadError.TheVariants.{Flawed, OutOfMemory as NoMemory}
 use Rattle.core_images.specs.declared.preamble.ImageLayout.{ImageLayout}
 use Rattle.core_images.specs.declared.preamble.ImageLayout.TheVariants.{Empty, Filled}
 
@@ -42,8 +45,31 @@ abbrev pub ReadsCurrent : {X : Type 0} → (X → ℕ) → (List ℕ → X → T
 ReadsCurrent key Spells family kind bytes h s =
     (longs : ℕ) × Begins bytes longs 3 family × (slice_index bytes 3 ≡ kind) × ReadsFlagged key Spells bytes longs h s
 
--- a layout allows this state: by what it says, and by the bytes after the preamble
-abbrev pub LeavesOpen : {X : Type 0} → (X → ℕ) → (List ℕ → X → Type 0) → List ℕ → (h : ℕ) → Option ImageLayout → Compact X → Type 0
-LeavesOpen key Spells bytes h None s = ⊥
-LeavesOpen key Spells bytes h (Some Empty) s = s ≡ empty_compact h
-LeavesOpen {X} key Spells bytes h (Some (Filled p)) s = (xs : List X) × (s ≡ state_after_preamble p h xs) × HasEntries key Spells bytes p h xs
+-- a layout allows this state: by what it says, and by the bytes after the preamble; a flaw allows none
+abbrev pub LeavesOpen : {X : Type 0} → (X → ℕ) → (List ℕ → X → Type 0) → List ℕ → (h : ℕ) → Result ImageLayout Flaw → Compact X → Type 0
+LeavesOpen key Spells bytes h (Err flaw) s = ⊥
+LeavesOpen key Spells bytes h (Ok Empty) s = s ≡ empty_compact h
+LeavesOpen {X} key Spells bytes h (Ok (Filled p)) s = (xs : List X) × (s ≡ state_after_preamble p h xs) × HasEntries key Spells bytes p h xs
+
+-- memory is refused, or there is no reading, and this is the flaw
+abbrev pub IsUnread : (Something : Type 0) → Flaw → ReadError → Type 0
+IsUnread Something flaw NoMemory = ⊤
+IsUnread Something flaw (Flawed found) = (found ≡ flaw) × (Something → ⊥)
+
+-- the result is a reading; a flaw is returned only if there is none, and it is this one
+abbrev pub ReadsOrFlawed : {X : Type 0} → (X → Type 0) → Flaw → Result X ReadError → Type 0
+ReadsOrFlawed {X} Reads flaw (Ok x) = Reads x
+ReadsOrFlawed {X} Reads flaw (Err e) = IsUnread ((x : X) × Reads x) flaw e
+
+-- why bytes with this flaw were not read, by the error of reading them
+abbrev pub error_of : Flaw → ErrorKind → ReadError
+error_of flaw InvalidData = Flawed flaw
+error_of flaw InvalidArgument = NoMemory
+error_of flaw OutOfMemory = NoMemory
+error_of flaw Policy = NoMemory
+error_of flaw Failed = NoMemory
+
+-- the kind of the error of a caller that doesn't ask why
+abbrev pub kind_of : ReadError → ErrorKind
+kind_of (Flawed flaw) = InvalidData
+kind_of NoMemory = OutOfMemory

@@ -51,7 +51,7 @@ fn spell_block<E: FixedEntry<N>, const N: usize>(texts: &mut [[u8; N]; BLOCK], b
 {
     // Both bounds are the same: with the lesser of them the compiler tests neither access again.
     let count = block.len().min(BLOCK);
-    'spell_each: for at in 0..count {
+    for at in 0..count {
         texts[at] = block[at].to_text();
     }
 }
@@ -69,7 +69,7 @@ pub(crate) fn write_in_blocks<E: FixedEntry<N>, const N: usize, A: Allocator>(
     // One array for all blocks: it isn't cleared again, and nothing returns it, which would copy it.
     let mut texts = [[0u8; N]; BLOCK];
     let mut rest = entries;
-    'write_blocks: while !rest.is_empty() {
+    while !rest.is_empty() {
         let (block, others) = rest.split_at(rest.len().min(BLOCK));
         spell_block(&mut texts, block);
         let (written, _) = texts.split_at(block.len());
@@ -135,7 +135,7 @@ fn subtract_block<E: FixedEntry<N> + SketchEntry + Drop, const N: usize>(
     let mut last = before;
     let mut differences = u64::MAX;
     let mut hashes = before;
-    'subtract_each: for text in block {
+    for text in block {
         let hash = E::of_text(text).hash();
         differences = differences & last.wrapping_sub(hash);
         hashes = hashes | hash;
@@ -159,7 +159,7 @@ fn compare_block<E: FixedEntry<N> + SketchEntry + Drop, const N: usize>(
     }
     let mut last = before;
     let mut ascends = true;
-    'compare_each: for text in block {
+    for text in block {
         let hash = E::of_text(text).hash();
         ascends = ascends & (last < hash);
         last = hash;
@@ -187,7 +187,7 @@ where
     let mut entries = Vec::with_capacity(alloc, count as usize)?;
     let mut last = 0;
     let mut ascends = true;
-    'read_blocks: while !rest.is_empty() {
+    while !rest.is_empty() {
         let (block, others) = rest.split_at(rest.len().min(BLOCK));
         let (above, end) = compare_block::<E, N>(last, block);
         ascends = ascends & above;

@@ -15,7 +15,7 @@ pub(crate) fn ascends_from_zero<E: SketchEntry>(entries: &[E]) -> bool
 {
     let mut last = 0;
     let mut ascends = true;
-    'compare_each: for entry in entries {
+    for entry in entries {
         let hash = entry.hash();
         ascends = ascends & (last < hash);
         last = hash;
@@ -38,7 +38,7 @@ fn is_last_below<E: SketchEntry>(entries: &[E], theta: u64) -> bool
 fn are_below<E: SketchEntry>(entries: &[E], theta: u64) -> bool
     ensures { result ≡ are_below theta (map E.key entries.now) }
 {
-    'test_each: for entry in entries {
+    for entry in entries {
         let hash = entry.hash();
         if hash == 0 || hash >= theta {
             return false;
@@ -53,7 +53,7 @@ fn hashes_of<E: SketchEntry, A: Allocator>(alloc: A, entries: &[E]) -> Result<Ve
     ensures refused { Refuses result None true }
 {
     let mut hashes = Vec::with_capacity(alloc, entries.len())?;
-    'collect_each: for entry in entries {
+    for entry in entries {
         hashes.push(entry.hash())?;
     }
     Ok(hashes)

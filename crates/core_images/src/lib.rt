@@ -8,6 +8,8 @@
 mod blocks;
 mod check;
 mod entry;
+mod flaw;
+mod head;
 pub mod laws;
 mod numbers;
 mod preamble;
@@ -16,9 +18,12 @@ mod summary;
 mod write;
 
 pub use entry::ImageEntry;
-pub use preamble::{
-    ImageLayout, Preamble, admitted, announced, count_at, flagged_layout, seed_hash_at, theta_at,
+pub use flaw::{Flaw, ReadError};
+pub use head::{
+    Head, count_of, flaw_of_image, is_followed, layout_of, length_of, reader_seed_hash, theta_head,
+    tuple_head,
 };
+pub use preamble::{ImageLayout, Preamble, announced, count_at, seed_hash_at, theta_at};
 pub use read::read_after_preamble;
 pub use summary::TupleSummaryValue;
 pub use write::{write_image, write_image_with_capacity};

@@ -1,8 +1,6 @@
 //! The preamble of an image, before its entries.
 ghost use Rattle.std.specs.Prelude.{◌≡◌, ◌≤◌, length};
-ghost use Rattle.core_images.specs.Preamble.{announced, count_at, theta_at, seed_hash_at, admitted, flagged_layout};
-
-use core_laws::MAX_THETA;
+ghost use Rattle.core_images.specs.Preamble.{announced, count_at, theta_at, seed_hash_at};
 
 /// What a preamble says about the entries.
 #[derive(Debug, Clone, Copy)]
@@ -62,42 +60,4 @@ pub fn announced(longs: u8, count: u32, theta: u64, ordered: bool) -> Preamble
         theta,
         ordered,
     }
-}
-
-/// The layout with this preamble, or `None` if its theta is not from 1 to `MAX_THETA`.
-#[tactic(auto, unfolding(crate::specs::Preamble::admitted))]
-pub fn admitted(p: Preamble) -> Option<ImageLayout>
-    ensures { result ≡ admitted p }
-{
-    if 0 < p.theta && p.theta <= MAX_THETA {
-        Some(ImageLayout::Filled(p))
-    } else {
-        None
-    }
-}
-
-/// The layout of an image of version 3 with `longs` preamble longs, from 1 to 3, under the reader's seed hash. It is
-/// `None` if the image isn't flagged empty and has another seed hash, ends within its preamble, or has a theta
-/// outside its range.
-#[tactic(auto, unfolding(crate::specs::Preamble::flagged_layout))]
-pub fn flagged_layout(bytes: &[u8], longs: u8, seed_hash: u16) -> Option<ImageLayout>
-    requires whole { 8 ≤ length bytes.now }
-    requires low { 1 ≤ longs }
-    requires high { longs ≤ 3 }
-    ensures { result ≡ flagged_layout bytes.now longs seed_hash }
-{
-    let ordered = bytes[5] & 0x10 != 0;
-    if bytes[5] & 0x04 != 0 {
-        return Some(ImageLayout::Empty);
-    }
-    if seed_hash_at(bytes) != seed_hash || bytes.len() < 8 * longs as usize {
-        return None;
-    }
-    if longs == 1 {
-        return Some(ImageLayout::Filled(announced(1, 1, MAX_THETA, ordered)));
-    }
-    if longs == 2 {
-        return Some(ImageLayout::Filled(announced(2, count_at(bytes), MAX_THETA, ordered)));
-    }
-    admitted(announced(3, count_at(bytes), theta_at(bytes), ordered))
 }

@@ -48,7 +48,7 @@ pub trait TupleSummaryValue<A: Allocator> {
         ensures values { OnOk result (AllByRecursion (is_tuple_value is_value) entries.now) }
         ensures refused { Refuses result None true }
     {
-        'write_each: for entry in entries {
+        for entry in entries {
             bytes.write_u64_le(entry.hash())?;
             entry.summary().serialize_value(bytes)?;
         }
@@ -82,7 +82,7 @@ pub trait TupleSummaryValue<A: Allocator> {
         }
         let mut entries = Vec::with_capacity(alloc, count as usize)?;
         let mut slice = SketchSlice::new(bytes);
-        'read_each: for _i in 0..count {
+        for _i in 0..count {
             let hash = slice.read_u64_le()?;
             let summary = Self::deserialize_value(entries.allocator(), &mut slice)?;
             entries.push(TupleEntry::of_hash(hash, summary))?;

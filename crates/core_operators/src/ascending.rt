@@ -33,7 +33,7 @@ fn entries_below<E: SlotEntry + Clone, A: Allocator>(
     ensures refused { Refuses result None true }
 {
     let mut entries = Vec::with_capacity(alloc, room)?;
-    'clone_each: for entry in items {
+    for entry in items {
         let hash = entry.hash();
         if is_past(ascending, hash, theta) {
             break;
@@ -92,7 +92,7 @@ fn gather<'a, E: SlotEntry, A: Allocator>(
     ensures fewer { length items.new.rest ≤ length items.old.rest }
 {
     let mut gathered = count;
-    'gather_each: while gathered < BLOCK {
+    while gathered < BLOCK {
         let Some(entry) = items.next() else {
             break;
         };
@@ -117,7 +117,7 @@ fn entries_admitted<E: SlotEntry + Clone, A: Allocator, B: Allocator>(
 {
     let mut entries = Vec::with_capacity(alloc, room)?;
     let mut left = items;
-    'gather_blocks: while let Some(first) = left.next() {
+    while let Some(first) = left.next() {
         let mut found = [first; BLOCK];
         let count = number_if(filter.admits(first.hash()));
         let gathered = gather(&mut left, filter, &mut found, count);
@@ -169,7 +169,7 @@ fn hashes_below<T: KeySketch, A: Allocator>(
     ensures refused { Refuses result None true }
 {
     let mut keys = Vec::with_capacity(alloc, room)?;
-    'collect_each: for hash in hashes {
+    for hash in hashes {
         if is_past(ascending, hash, theta) {
             break;
         }
@@ -210,7 +210,7 @@ fn push_hashes<A: Allocator>(
 ) -> Result<(), AllocError>
     ensures { OnOk result (keys.new.items ≡ keys.old.items ++ found.now) }
 {
-    'push_each: for key in found {
+    for key in found {
         keys.push(*key)?;
     }
     Ok(())
@@ -258,7 +258,7 @@ fn hashes_admitted<T: KeySketch, A: Allocator, B: Allocator>(
     let mut keys = Vec::with_capacity(alloc, room)?;
     let mut found = [ThetaEntry::of_hash(0); BLOCK];
     let mut count = 0usize;
-    'collect_each: for hash in hashes {
+    for hash in hashes {
         let is_admitted = filter.admits(hash);
         count = put_hash(&mut keys, &mut found, count, hash, is_admitted)?;
     }

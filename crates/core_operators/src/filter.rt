@@ -62,7 +62,7 @@ impl<A: Allocator> HashFilter<A> {
         let count = (theta >> shift) / 64 + 1;
         let mut words = Vec::new(alloc);
         words.resize(count as usize, 0u64)?;
-        'set_each: for entry in entries {
+        for entry in entries {
             let hash = entry.hash();
             if hash < theta {
                 set_bit(&mut words, hash >> shift);

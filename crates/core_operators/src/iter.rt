@@ -61,7 +61,7 @@ fn entries_from_below<'a, E: SlotEntry>(entries: &'a [E], theta: u64) -> &'a [E]
     ensures { result.now ≡ from_below E.key theta entries.entry.now }
 {
     let mut left = entries;
-    'pass_each: while let Some((first, others)) = left.split_first() {
+    while let Some((first, others)) = left.split_first() {
         if first.hash() < theta {
             break;
         }

@@ -225,7 +225,7 @@ fn merge_ascending<E: SlotEntry + Clone, P: UnionMergePolicy<E>, A: Allocator + 
 {
     let mut far = MOST_FAR;
     let mut left = entries;
-    'merge_in_order: while let Some((first, others)) = left.split_first() {
+    while let Some((first, others)) = left.split_first() {
         let key = first.hash();
         if is_past_either(key, theta, table.retention_theta()) {
             break;
@@ -254,7 +254,7 @@ fn entries_from<'a, E: SlotEntry>(entries: &'a [E], from: u64) -> &'a [E]
     ensures { result.now ≡ at_or_above E.key entries.entry.now from }
 {
     let mut left = entries;
-    'pass_each: while let Some((first, others)) = left.split_first() {
+    while let Some((first, others)) = left.split_first() {
         if first.hash() >= from {
             break;
         }
@@ -274,7 +274,7 @@ fn clones_of<E: SlotEntry + Clone, A: Allocator>(
 {
     let mut clones = Vec::new(alloc);
     clones.push(first.clone()?)?;
-    'clone_each: for entry in entries {
+    for entry in entries {
         clones.push(entry.clone()?)?;
     }
     Ok(clones)
@@ -311,7 +311,7 @@ where
     }
     let mut far = MOST_FAR;
     let mut lesser = theta.min(table.retention_theta());
-    'merge_each: while let Some(entry) = next_entry(&mut entries, ordered, lesser) {
+    while let Some(entry) = next_entry(&mut entries, ordered, lesser) {
         let hash = entry.hash();
         if is_past(ordered, hash, lesser) {
             break;

@@ -44,7 +44,7 @@ pub(crate) fn inputs_of<S: EntrySketch>(sketches: &[S], seed_hash: u16) -> Resul
         theta: MAX_THETA,
         ordered: true,
     };
-    'read_each: for sketch in sketches {
+    for sketch in sketches {
         // Called for its clause: the entries have the hashes that the sketch shows.
         let _ = sketch.entries();
         match (*sketch).metadata() {
@@ -79,7 +79,7 @@ fn expected_below<S: EntrySketch, A: Allocator>(
     theta: u64,
 ) -> u64 {
     let mut expected = share_below(table.num_retained(), table.retention_theta(), theta);
-    'add_each: for sketch in sketches {
+    for sketch in sketches {
         if let ThetaFamilySketchMetadata::NonEmpty {
             theta: own,
             num_retained,
@@ -144,7 +144,7 @@ where
         IsRangeRefusal S.Entry.key (P.merges policy.now) (P.refuses policy.now) table.old.map from to
         S.listing sketches.now) }
 {
-    'merge_each: for sketch in sketches {
+    for sketch in sketches {
         match (*sketch).metadata() {
             ThetaFamilySketchMetadata::Empty { .. } => {
                 // Called for its clause: the entries have the hashes that the sketch shows, here none.
@@ -192,7 +192,7 @@ where
     }
     let mut from = 0u64;
     let mut steps = 1u64;
-    'merge_ranges: while from < theta.min(table.retention_theta()) {
+    while from < theta.min(table.retention_theta()) {
         merge_range(table, sketches, policy, from, to)?;
         if to < theta {
             table.trim()?;

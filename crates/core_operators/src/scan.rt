@@ -68,7 +68,7 @@ fn sift<'a, 'b, E: SketchEntry, F: SketchEntry>(
     let mut left = entries;
     let mut others_left = others;
     let mut count = 0usize;
-    'compare_each: while count < BLOCK {
+    while count < BLOCK {
         let Some(entry) = left.first() else {
             break;
         };
@@ -102,7 +102,7 @@ pub(crate) fn push_clones<E: Clone + Drop, A: Allocator>(
     requires clones_equal { ClonesEqual E.is_clone }
     ensures { OnOk result (entries.new.items ≡ entries.old.items ++ map (λ x. x.now) borrowed.now) }
 {
-    'push_each: for entry in borrowed {
+    for entry in borrowed {
         entries.push((*entry).clone()?)?;
     }
     Ok(())
@@ -118,7 +118,7 @@ fn push_below<E: SketchEntry + Clone + Drop, A: Allocator>(
     requires ascending { IsAscending E.key entries.now }
     ensures { OnOk result (kept.new.items ≡ kept.old.items ++ below E.key entries.now theta) }
 {
-    'push_each: for entry in entries {
+    for entry in entries {
         if entry.hash() >= theta {
             break;
         }
@@ -145,7 +145,7 @@ fn push_lacking<E: SketchEntry + Clone + Drop, F: SketchEntry, A: Allocator>(
     ensures grows { compared.old ≤ compared.new }
     ensures compared { AreFewLookUps compared.old compared.new (length entries.now) (length others.now) }
 {
-    'look_up_each: for entry in entries {
+    for entry in entries {
         let hash = entry.hash();
         if hash >= theta {
             break;
@@ -186,7 +186,7 @@ pub(crate) fn ascending_difference<E: SketchEntry + Clone + Drop, F: SketchEntry
     }
     let mut left = entries;
     let mut others_left = others;
-    'sift_blocks: while let Some(first) = left.first() {
+    while let Some(first) = left.first() {
         let mut found = [first; BLOCK];
         let sifted = sift(left, others_left, theta, &mut found, compared);
         push_clones(&mut kept, &found[..sifted.count])?;

@@ -35,7 +35,7 @@ pub(crate) fn found_by_halves<'a, E: SketchEntry>(
     ensures compared { (k : ℕ) → length entries.entry.now < 2 ^ k → compared.new ≤ compared.old + k }
 {
     let mut left = entries;
-    'halve: loop {
+    loop {
         let (before, rest) = left.split_at(left.len() / 2);
         let Some((entry, behind)) = rest.split_first() else {
             return None;

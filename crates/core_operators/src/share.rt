@@ -32,7 +32,7 @@ pub(crate) fn cloned_entries<E: SlotEntry + Clone, A: Allocator>(
     ensures refused { Refuses result None true }
 {
     let mut entries = Vec::new(alloc);
-    'clone_each: for entry in items {
+    for entry in items {
         entries.push(entry.clone()?)?;
     }
     Ok(entries)
@@ -125,7 +125,7 @@ fn shared_in_pass<E: SketchEntry + Clone + Drop, P: IntersectionMergePolicy<E>, 
     let mut entries = Vec::new(alloc);
     let mut left = content;
     let mut arriving_left = arriving;
-    'share_each: while let Some(incoming) = arriving_left.first() {
+    while let Some(incoming) = arriving_left.first() {
         let Some(existing) = left.first() else {
             break;
         };
@@ -171,7 +171,7 @@ fn shared_by_halves<E: SketchEntry + Clone + Drop, P: IntersectionMergePolicy<E>
     ensures compared { AreFewLookUps compared.old compared.new (length short.now) (length long.now) }
 {
     let mut entries = Vec::new(alloc);
-    'look_up_each: for entry in short {
+    for entry in short {
         let hash = entry.hash();
         if hash >= theta {
             break;

@@ -25,7 +25,7 @@ fn gather_below<E: SlotEntry>(slots: &mut [E::Slot], theta: u64, others: &mut [E
         ≡ below E.key (entries_in E.content slots.old) theta }
 {
     let mut count = 0;
-    'take_each: for at in 0..slots.len() {
+    for at in 0..slots.len() {
         let slot = mem::replace(&mut slots[at], E::free_slot());
         let more = number_below::<E>(&slot, theta);
         others[count] = slot;
@@ -43,7 +43,7 @@ pub(crate) fn pack_below<E: SlotEntry>(slots: &mut [E::Slot], theta: u64) -> usi
         ≡ below E.key (entries_in E.content slots.old) theta }
 {
     let mut count = 0;
-    'pack_each: for at in 0..slots.len() {
+    for at in 0..slots.len() {
         let slot = mem::replace(&mut slots[at], E::free_slot());
         let more = number_below::<E>(&slot, theta);
         slots[count] = slot;

@@ -41,7 +41,7 @@ fn blank_retained<E: SlotEntry>(slots: &[E::Slot], lg: u8, step: usize, hashes: 
     ensures blanked { EachIndex hashes.old (λ p.
         IsBlanked E.key (entries_in E.content slots.now) (slice_index hashes.old p) (slice_index hashes.new p)) }
 {
-    'blank_each: for hash in hashes.iter_mut() {
+    for hash in hashes.iter_mut() {
         let at = slot_after(*hash, lg, step);
         *hash = blanked_at::<E>(slots, at, *hash);
     }
@@ -64,7 +64,7 @@ fn pack_unscreened(hashes: &mut [u64], theta: u64) -> usize
     ensures limited { result ≤ length hashes.old }
 {
     let mut count = 0usize;
-    'pack_each: for i in 0..hashes.len() {
+    for i in 0..hashes.len() {
         let hash = hashes[i];
         hashes[count] = hash;
         count += number_unscreened(hash, theta);
@@ -92,7 +92,7 @@ pub fn drop_retained<E: SlotEntry>(
     ensures limited { result ≤ length hashes.old }
 {
     let mut left = pack_unscreened(hashes, theta);
-    'round: for step in 0..ROUNDS {
+    for step in 0..ROUNDS {
         blank_retained::<E>(slots, lg, step, &mut hashes[..left]);
         left = pack_unscreened(&mut hashes[..left], theta);
     }

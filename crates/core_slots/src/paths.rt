@@ -19,7 +19,7 @@ use std::alloc::Allocator;
 fn inverse_of(stride: u64) -> u64 {
     // Right in the low 3 bits, and in twice as many after each step.
     let mut inverse = stride;
-    'double: for _ in 0..5 {
+    for _ in 0..5 {
         inverse = inverse.wrapping_mul(2u64.wrapping_sub(stride.wrapping_mul(inverse)));
     }
     inverse
@@ -88,7 +88,7 @@ fn steps_to_free<E: PathEntry>(
     ensures looks { looks.new ≤ looks.old + length (entries_in E.content slots.now) + 1 }
 {
     let mut steps = known;
-    'look: loop {
+    loop {
         let at = slot_after(hash, lg, steps);
         if look_at::<E>(slots, at, looks).is_none() {
             return steps;
@@ -131,7 +131,7 @@ pub(crate) fn put_along_paths<E: SlotEntry, A: Allocator>(
     left.sort_unstable_by_key(|slot| order_of(hash_or_zero::<E>(slot), lg, mask));
     let mut last = 0u64;
     let mut taken = 0usize;
-    'put_each: while let Some(entry) = left.pop() {
+    while let Some(entry) = left.pop() {
         if let Some(hash) = hash_in::<E>(&entry) {
             let known = steps_known(hash, last, taken, lg);
             let steps = steps_to_free::<E>(slots, lg, hash, known, looks);

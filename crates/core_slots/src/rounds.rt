@@ -167,7 +167,7 @@ pub fn settle_all<E: SlotEntry, A: Allocator>(
     ensures looked { LooksForEach (placed.new - placed.old) looks.old looks.new }
     ensures looks { LooksAtPlaced (placed.new - placed.old) looks.old looks.new }
 {
-    'parts: loop {
+    loop {
         let count = left.len();
         if count == 0 {
             return;

@@ -90,7 +90,7 @@ fn narrowed(span: Span, low: u64, high: u64, below: usize, between: usize, rank:
 /// One more than the greatest hash in the slots and `also`, if there is one.
 fn end_of_hashes<E: SlotEntry>(also: Option<u64>, slots: &[E::Slot]) -> u64 {
     let mut greatest = also.unwrap_or(0);
-    'raise_each: for slot in slots {
+    for slot in slots {
         greatest = greatest.max(hash_or_zero::<E>(slot));
     }
     greatest.saturating_add(1)
@@ -170,7 +170,7 @@ fn gather_few<E: SlotEntry>(
 {
     let mut count = 0;
     let mut less = 0;
-    'gather_each: for at in 0..slots.len() {
+    for at in 0..slots.len() {
         let hash = E::hash_or_greatest(&slots[at]);
         found[count] = hash;
         count += number_within(hash, low, high);
@@ -218,7 +218,7 @@ fn gather_window<E: SlotEntry, A: Allocator>(
     let mut less = 0usize;
     lengthen(hashes, room)?;
     let mut left = slots;
-    'gather_blocks: while !left.is_empty() {
+    while !left.is_empty() {
         let (block, behind) = left.split_at(left.len().min(BLOCK));
         lengthen(hashes, count + block.len())?;
         let (kept, smaller) = gather_few::<E>(&mut hashes[count..], block, low, high);
@@ -245,7 +245,7 @@ fn gather_all<E: SlotEntry, A: Allocator>(
     if let Some(first) = also {
         hashes.push(first)?;
     }
-    'gather_each: for slot in slots {
+    for slot in slots {
         if let Some(hash) = hash_in::<E>(slot) {
             hashes.push(hash)?;
         }
@@ -290,7 +290,7 @@ pub fn hash_of_rank<E: SlotEntry, A: Allocator + Drop>(
     };
     let room = window_room(count, slots.len());
     let mut hashes = Vec::with_capacity(alloc, room)?;
-    'aim: for _ in 0..TRIES {
+    for _ in 0..TRIES {
         let (low, high) = expected_bounds(span, rank);
         let below = gather_window::<E, A>(&mut hashes, room, also, slots, low, high)?;
         if below <= rank && rank - below < hashes.len() {

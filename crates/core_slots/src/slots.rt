@@ -93,7 +93,7 @@ pub fn seek<E: PathEntry>(slots: &[E::Slot], lg: u8, hash: u64, looks: &mut Coun
     let size = slots.len();
     let stride = stride_of(hash, lg);
     let mut at = slot_among(hash as usize, size, lg);
-    'look: loop {
+    loop {
         match look_at::<E>(slots, at, looks) {
             None => return Place { at, is_free: true },
             Some(entry) => {
@@ -136,7 +136,7 @@ pub fn seek_near<E: PathEntry>(
     let size = slots.len();
     let stride = stride_of(hash, lg);
     let mut at = slot_among(hash as usize, size, lg);
-    'look: for _step in 0..NEAR {
+    for _step in 0..NEAR {
         match look_at::<E>(slots, at, looks) {
             None => return Some(Place { at, is_free: true }),
             Some(entry) => {

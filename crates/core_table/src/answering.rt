@@ -33,7 +33,7 @@ pub(crate) fn entries_below<'a, E: SlotEntry + Clone + 'a, A: Allocator>(
         marks: 0,
     };
     let mut clones = Vec::with_capacity(alloc, room)?;
-    'clone_each: while let (Some(entry), behind) = first_in::<E>(left, Some(theta)) {
+    while let (Some(entry), behind) = first_in::<E>(left, Some(theta)) {
         clones.push(entry.clone()?)?;
         left = behind;
     }

@@ -13,7 +13,7 @@ pub(crate) fn clear_slots<E: SlotEntry, A: Allocator>(slots: &mut Vec<E::Slot, A
     ensures free { entries_in E.content slots.new.items ≡ [] }
 {
     slots.truncate(size);
-    'free_each: for at in 0..size {
+    for at in 0..size {
         slots[at] = E::free_slot();
     }
 }

@@ -703,7 +703,7 @@ fn slots_holding<E: SlotEntry + Drop, A: Allocator>(
         ≡ record counts.old { inserted = counts.old.inserted + count; fresh = counts.old.fresh + count }) }
 {
     let mut slots = Vec::with_capacity(alloc, entries.len())?;
-    'hold_each: for entry in entries {
+    for entry in entries {
         slots.push(entry.into_slot())?;
         counts.inserted.tick();
         counts.fresh.tick();
@@ -813,8 +813,8 @@ impl<A: Allocator + Clone> SketchHashTable<ThetaEntry, A> {
     /// Inserts hashes in their order, each as `try_insert_hash` does. There must be at least 8 nominal entries, as in
     /// every table of `new`.
     ///
-    /// It looks at the slots of up to 256 hashes side by side, so that the waits for memory overlap: with many slots,
-    /// and if most hashes are retained, this takes half the time. Those looks aren't counted.
+    /// In a table of at least 2^17 slots it looks at those of up to 256 hashes side by side, so that the waits for
+    /// memory overlap: if most hashes are retained, this takes half the time. Those looks aren't counted.
     ///
     /// Refused with `OutOfMemory` alone, and only at a new hash below theta; then exactly the hashes before that one
     /// have been inserted, and the same call may be made again.
@@ -826,7 +826,7 @@ impl<A: Allocator + Clone> SketchHashTable<ThetaEntry, A> {
         ensures looks_kept { self.old.counts.looks ≤ self.new.counts.looks }
     {
         let mut rest = hashes;
-        'each_block: while !rest.is_empty() {
+        while !rest.is_empty() {
             let (block, others) = rest.split_at(rest.len().min(BLOCK));
             self.insert_block(block)?;
             rest = others;
@@ -834,8 +834,25 @@ impl<A: Allocator + Clone> SketchHashTable<ThetaEntry, A> {
         Ok(())
     }
 
-    /// Inserts a block of hashes in their order, after dropping those that are screened or found at once.
+    /// Inserts a block of hashes in their order. Slots that a cache of the processor holds are looked at one after
+    /// another: there are no waits that could overlap.
     fn insert_block(&mut self, hashes: &[u64]) -> Result<(), Error>
+        requires room { 3 ≤ self.old.map.lg_nom }
+        requires limited { length hashes.now ≤ BLOCK }
+        ensures after { OnOk result (self.new.map ≡ after_hashes hashes.now self.old.map) }
+        ensures err { OnErr result (StopsAtMemory hashes.now self.old.map self.new.map) }
+        ensures refused { Refuses result None true }
+        ensures looks_kept { self.old.counts.looks ≤ self.new.counts.looks }
+    {
+        if self.lg_cur_size < LG_MANY_SLOTS {
+            self.insert_each(hashes)
+        } else {
+            self.insert_unfound(hashes)
+        }
+    }
+
+    /// Inserts a block of hashes in their order, after dropping those that are screened or found at once.
+    fn insert_unfound(&mut self, hashes: &[u64]) -> Result<(), Error>
         requires room { 3 ≤ self.old.map.lg_nom }
         requires limited { length hashes.now ≤ BLOCK }
         ensures after { OnOk result (self.new.map ≡ after_hashes hashes.now self.old.map) }
@@ -870,7 +887,7 @@ impl<A: Allocator + Clone> SketchHashTable<ThetaEntry, A> {
         ensures refused { Refuses result None true }
         ensures looks_kept { self.old.counts.looks ≤ self.new.counts.looks }
     {
-        'each: for hash in hashes {
+        for hash in hashes {
             self.try_insert_hash(*hash)?;
         }
         Ok(())
@@ -966,6 +983,9 @@ const ALWAYS_ROOM_LG_NOM: u8 = 3;
 
 /// At most this many hashes are looked up together.
 const BLOCK: usize = 256;
+
+/// From this logarithm of the number of slots on (2^17 take a MiB) hashes are looked up together.
+const LG_MANY_SLOTS: u8 = 17;
 
 /// How many sixteenths of its slots a table fills before it is rebuilt.
 const FILLED_SIXTEENTHS: u128 = 15;

@@ -89,7 +89,7 @@ pub(crate) fn size_for(lg_cur: u8, lg_nom: u8, grow: u8, count: usize) -> u8
     ensures small { result < 40 }
 {
     let mut lg = lg_cur;
-    'grow: while count > threshold_of(lg, lg_nom) {
+    while count > threshold_of(lg, lg_nom) {
         lg = (lg + grow).min(lg_nom + 1);
     }
     lg

@@ -99,7 +99,7 @@ fn marks_of<E: SlotEntry>(slots: &[E::Slot], bound: Option<u64>) -> u64
     ensures { result ≡ mask_l (map is_some (map (under E.key bound E.content) slots.now)) }
 {
     let mut marks = 0u64;
-    'mark_each: for i in 0..slots.len() {
+    for i in 0..slots.len() {
         marks = 2 * marks + mark_of::<E>(&slots[slots.len() - 1 - i], bound);
     }
     marks
@@ -114,7 +114,7 @@ fn marked_from<'a, E: SlotEntry + 'a>(slots: &'a [E::Slot], bound: Option<u64>) 
     ensures none { result.marks ≡ 0 → filled (map (under E.key bound E.content) result.slots.now) ≡ [] }
 {
     let mut left = slots;
-    'pass_blocks: while !left.is_empty() {
+    while !left.is_empty() {
         let ahead = left.len().min(BLOCK);
         let marks = marks_of::<E>(&left[..ahead], bound);
         if marks != 0 {
@@ -183,7 +183,7 @@ fn any_below<E: SlotEntry>(block: &[E::Slot], theta: u64) -> bool
     ensures { result ≡ false → AllByRecursion (λ x. theta ≤ E.key x) (entries_in E.content block.now) }
 {
     let mut any = false;
-    'test_each: for slot in block {
+    for slot in block {
         any |= holds_below::<E>(slot, theta);
     }
     any

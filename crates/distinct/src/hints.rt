@@ -1,8 +1,8 @@
 //! What to do about a failure: printed after its message, by the words of the command.
 
-use distinct_arguments::{Escaped, Fault};
+use distinct_arguments::{Escaped, Fault, OptionName, command_of, has_option};
 use distinct_messages::{Failure, family_name};
-use keys_sketches::Flaw;
+use keys_sketches::{Flaw, ImageFlaw};
 use std::fmt;
 use std::io::ErrorKind;
 
@@ -17,18 +17,18 @@ pub struct Hint<'a> {
 /// tab, an LF or a CR, or that of a gzip file.
 fn may_have_lines(flaw: Flaw) -> bool {
     match flaw {
-        Flaw::Short => true,
-        Flaw::Family(8 | 9 | 10 | 13) => true,
-        Flaw::Family(family) => family_name(family).is_none(),
+        Flaw::Image(ImageFlaw::Short) => true,
+        Flaw::Image(ImageFlaw::Family(8 | 9 | 10 | 13)) => true,
+        Flaw::Image(ImageFlaw::Family(family)) => family_name(family).is_none(),
         _ => false,
     }
 }
 
 /// Whether a command has the option `--lg-k`.
 fn has_size(command: &str) -> bool {
-    match command {
-        "count" | "sketch" | "union" | "eval" | "visits" | "sum" => true,
-        _ => false,
+    match command_of(command) {
+        Some(command) => has_option(command, OptionName::LgK),
+        None => false,
     }
 }
 
@@ -89,7 +89,7 @@ impl fmt::Display for Hint<'_> {
             }
             Failure::NoFiles => write!(f, " (try distinct {command} --help)"),
             Failure::Memory if has_size(command) => write!(f, "; try a smaller --lg-k"),
-            Failure::NoSketch(_, 0, Flaw::Family(9)) => {
+            Failure::NoSketch(_, 0, Flaw::Image(ImageFlaw::Family(9))) => {
                 if command == "eval" {
                     write!(f, "; pass --sums for images of sums, --keys for lines")
                 } else {

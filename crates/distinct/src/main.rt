@@ -17,7 +17,10 @@ mod tests;
 
 use crate::hints::Hint;
 use crate::progress::Progress;
-use distinct_arguments::{Command, Fault, Front, Options, Request, Seed, front_of, read_arguments};
+use distinct_arguments::{
+    Command, Fault, Front, Options, Request, Seed, check_output, front_of, options_first,
+    read_arguments, reads_texts, word_of,
+};
 use distinct_commands::{Operands, group_files, only_expression, perform};
 use distinct_inputs::{Files, Inputs, files_in_list, seed_of};
 use distinct_messages::Failure;
@@ -38,7 +41,9 @@ fn main(rt: HostRuntime) -> ExitCode {
                 failure: &failure,
                 words: words_behind_dirs(words.as_slice()),
             };
-            let _ = eprintln!(rt; "distinct: {failure}{hint}");
+            if !failure.is_closed_output() {
+                let _ = eprintln!(rt; "distinct: {failure}{hint}");
+            }
             ExitCode::from(status)
         }
     }
@@ -121,7 +126,8 @@ fn run(rt: &HostRuntime) -> Result<(), Failure> {
     let Ok(args) = env::args(rt) else {
         return Err(text_failure(rt));
     };
-    let words: Vec<String> = args.skip(1).collect(rt.alloc())?;
+    let given: Vec<String> = args.skip(1).collect(rt.alloc())?;
+    let words = options_first(rt.alloc(), given.as_slice())?;
     let request = read_arguments(words.as_slice())?;
     match request {
         Request::Print(_) => run_request(rt, request, DEFAULT_UPDATE_SEED, Operands::Files(&[])),
@@ -182,11 +188,30 @@ fn run_folder(
 ) -> Result<(), Failure>
     requires seeded { seed_hash seed ≢ 0 }
 {
-    let sources = Files::named(rt, files, options.list.is_none());
-    let mut console = Progress::new(rt, options.progress);
+    let sources = files_of(rt, Command::Sketch, options, files);
+    let mut console = Progress::new(rt, options.progress, options.quiet);
     let inputs = Inputs::new(sources, files);
     let made = group_files(rt.alloc(), options, seed, by, inputs, &mut console)?;
     output::put_files(rt, folder, made.as_slice())
+}
+
+/// The files of these names that a command reads, or standard input if it reads lines and has none.
+fn files_of<'a>(
+    rt: &'a HostRuntime,
+    command: Command,
+    options: &Options<'_>,
+    names: &'a [String],
+) -> Files<'a> {
+    let has_lines = reads_texts(command, options);
+    let or_standard = has_lines && command != Command::Eval && options.list.is_none();
+    let reader = if has_lines && !options.quiet {
+        Some(word_of(command))
+    } else {
+        None
+    };
+    Files::named(rt, names, or_standard)
+        .watched(reader, options.quiet)
+        .in_part(options.part)
 }
 
 /// Fails if the bytes of an image would go to a terminal.
@@ -218,24 +243,23 @@ fn run_request(
     requires suits { SuitsAction (request_action request) operands }
 {
     let opened = operands.names();
+    if let Request::Run(command, options, _) = request {
+        check_output(rt.alloc(), command, &options, opened)?;
+    }
     if let Request::Run(Command::Sketch, options, _) = request {
         if let (Some(folder), Some(by)) = (options.folder, options.group()) {
             return run_folder(rt, &options, seed, by, folder, opened);
         }
     }
     let alloc = rt.alloc();
-    let (from_standard, progress, output) = match request {
-        Request::Print(_) => (false, false, None),
+    let (sources, progress, quiet, output) = match request {
+        Request::Print(_) => (Files::named(rt, opened, false), false, false, None),
         Request::Run(command, options, _) => {
-            let makes_sketch = command == Command::Count || command == Command::Sketch;
-            let prints_sums = command == Command::Visits || command == Command::Sum;
-            let reads_lines = makes_sketch || prints_sums;
-            let from_standard = reads_lines && !options.sums && options.list.is_none();
-            (from_standard, options.progress, options.output)
+            let sources = files_of(rt, command, &options, opened);
+            (sources, options.progress, options.quiet, options.output)
         }
     };
-    let sources = Files::named(rt, opened, from_standard);
-    let mut console = Progress::new(rt, progress);
+    let mut console = Progress::new(rt, progress, quiet);
     let watched = &mut console;
     match output {
         None => {

@@ -30,8 +30,7 @@ pub fn put_files(rt: &HostRuntime, folder: &str, files: &[GroupFile]) -> Result<
     for file in files {
         if LONGEST_FILE < file.name.len() {
             let path = path_of(alloc, folder, file)?;
-            let error = io::Error::from(ErrorKind::InvalidFilename);
-            return Err(write_failure(alloc, path.as_str(), error));
+            return Err(Failure::LongName(path, file.name.len() as u64));
         }
     }
     if let Err(error) = fs::create_dir_all(rt, folder) {

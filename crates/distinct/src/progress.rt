@@ -11,22 +11,24 @@ use theta_sketches::ThetaSketch;
 /// The seconds between two reports.
 const PAUSE: u64 = 1;
 
-/// About once a second, reports what was read, if it is enabled.
+/// Prints remarks, unless it is quiet, and about once a second reports what was read, if that is enabled.
 #[derive(Drop)]
 pub struct Progress<'a> {
     rt: &'a HostRuntime,
     enabled: bool,
+    quiet: bool,
     last_report: Option<Instant>,
     lines: u64,
     bytes: u64,
 }
 
 impl<'a> Progress<'a> {
-    /// Reports nothing yet, and nothing at all unless it is enabled.
-    pub fn new(rt: &'a HostRuntime, enabled: bool) -> Progress<'a> {
+    /// Reports nothing yet, and nothing at all unless it is enabled. If it is quiet, it prints no remark.
+    pub fn new(rt: &'a HostRuntime, enabled: bool, quiet: bool) -> Progress<'a> {
         Progress {
             rt,
             enabled,
+            quiet,
             last_report: None,
             lines: 0,
             bytes: 0,
@@ -89,6 +91,8 @@ impl<'a> GroupWatch for Progress<'a> {
 
 impl<'a> Console for Progress<'a> {
     fn remark(&mut self, remark: Remark<'_>) {
-        let _ = eprintln!(self.rt; "distinct: {remark}");
+        if !self.quiet {
+            let _ = eprintln!(self.rt; "distinct: {remark}");
+        }
     }
 }

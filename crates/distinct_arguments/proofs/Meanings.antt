@@ -4,7 +4,7 @@ use Rattle.std.specs.Prelude.{not}
 use Rattle.std.specs.Str.{bytes_eq}
 use Rattle.distinct_arguments.specs.Words.{is_option, is_standard, Setting, split_option}
 use Rattle.distinct_arguments.specs.Settings.{OptionValues, Mistake, no_value, with_value}
-use Rattle.distinct_arguments.specs.Arguments.{Action, fails, Awaiting, Meaning, help, sets, awaits, wrong, setting_meaning, at_meaning, at_value, standard_files, command_action}
+use Rattle.distinct_arguments.specs.Arguments.{Action, fails, Awaiting, Meaning, help, sets, awaits, wrong, setting_meaning, value_meaning, at_meaning, at_value, standard_files, command_action}
 use Rattle.distinct_arguments.specs.Faults.{options_of, ReportsMistake, SetsOptions, IsWrong}
 use Rattle.distinct_arguments.specs.declared.commands.Command.{Command}
 use Rattle.distinct_arguments.specs.declared.fault.Fault.{Fault}
@@ -68,3 +68,12 @@ use_counted file left others count one total parted is all =
 pub none_left : (left : List (List ℕ)) (count total : ℕ) → length left ≡ 0 → count + standard_files left ≡ total → count ≡ total
 none_left [] count total none all = omega (arith, all)
 none_left (file ∷ left) count total none all = absurd (omega arith)
+
+-- what a value that is right or wrong means
+pub meant_at : (w : Result OptionValues Mistake) (options : Options) → SetsOptions (Ok options) w → sets (options_of options) ≡ value_meaning w
+meant_at (Ok values) options is = ap sets is
+meant_at (Err mistake) options is = absurd is
+
+pub wrongly_at : (w : Result OptionValues Mistake) (e : Fault) → SetsOptions (Err e) w → IsWrong e (value_meaning w)
+wrongly_at (Ok values) e is = absurd is
+wrongly_at (Err mistake) e is = is

@@ -2,12 +2,12 @@
 use Rattle.std.proofs.Common.{◌≡◌, ℕ, Bool, true, false, cond, List, [], ◌∷◌, codes, length, Option, Some, None, Result, Ok, Err, refl, arith}
 use Rattle.std.specs.Prelude.{◌&&◌, ◌==◌, not, nat_lt, is_some, is_none}
 use Rattle.std.specs.Option.{option_map_or}
-use Rattle.std.specs.List.{find}
 use Rattle.std.specs.Str.{bytes_eq}
 use Rattle.std.proofs.lemmas.Bool.Decides.{nat_tests}
-use Rattle.distinct_arguments.specs.Words.{command_of, is_help, is_version, is_dir, is_option, split_option}
-use Rattle.distinct_arguments.specs.Settings.{OptionValues, default_options, Mistake, behind_file, standard_twice, with_value}
-use Rattle.distinct_arguments.specs.Arguments.{Action, runs, fails, Awaiting, Meaning, help, sets, awaits, wrong, setting_meaning, standard_uses, has_one_expression, lacks_keys, lacks_value, lacks_field, lacks_output, has_two_amounts, groups_sums, watches_sums, lacks_sums, bounds_total, listed_action, grouped_action, summed_action, added_action, run_action, at_meaning, at_value, command_action, first_action, Placed, within, placed_action, action_of, ReadsOnce}
+use Rattle.distinct_arguments.specs.Commands.{command_of}
+use Rattle.distinct_arguments.specs.Words.{is_help, is_version, is_dir, is_option, split_option}
+use Rattle.distinct_arguments.specs.Settings.{OptionValues, default_options, Mistake, standard_twice, with_value}
+use Rattle.distinct_arguments.specs.Arguments.{Action, runs, fails, Awaiting, Meaning, help, sets, awaits, wrong, setting_meaning, standard_uses, has_one_expression, lacks_value, broken, listed_action, run_action, at_meaning, at_value, command_action, first_action, Placed, within, placed_action, action_of, ReadsOnce}
 use Rattle.distinct_arguments.specs.declared.commands.Command.{Command}
 
 -- what runs at the end of two tests and a third
@@ -28,30 +28,14 @@ once_listed : (command : Command) (options : OptionValues) (files : List (List �
 once_listed command options files =
     at_list (is_some options.list && not (length files == 0)) _ _ tt (run_once command options files (nat_lt 1 (standard_uses command options files)) refl)
 
-once_grouped : (command : Command) (options : OptionValues) (files : List (List ℕ)) → ReadsOnce (grouped_action command options files)
-once_grouped command options files =
-    at_tests (lacks_output command options) (is_some options.sort && is_none options.by) _ _ _ tt tt
-    (at_tests (options.groups && not options.hex) (options.groups && is_some options.expected) _ _ _ tt tt
-    (at_tests (is_some options.folder && is_none options.by) (is_some options.folder && is_some options.output) _ _ _ tt tt (once_listed command options files)))
-
-once_summed : (command : Command) (options : OptionValues) (files : List (List ℕ)) → ReadsOnce (summed_action command options files)
-once_summed command options files =
-    at_tests (options.sums && options.keys) (options.sums && is_some options.field) _ _ _ tt tt
-    (at_tests (options.sums && options.groups) (bounds_total command options) _ _ _ tt tt (once_grouped command options files))
-
-once_added : (command : Command) (options : OptionValues) (files : List (List ℕ)) → ReadsOnce (added_action command options files)
-once_added command options files =
-    at_tests (has_two_amounts options) (groups_sums command options) _ _ _ tt tt
-    (at_tests (watches_sums command options) (lacks_sums command options) _ _ _ tt tt (once_summed command options files))
+at_broken : (found : Option Mistake) (run : Action) → ReadsOnce run → ReadsOnce (option_map_or (λ mistake. fails mistake) found run)
+at_broken None run once = once
+at_broken (Some mistake) run once = tt
 
 once_run : (command : Command) (options : OptionValues) (files : List (List ℕ)) → ReadsOnce (run_action command options files)
 once_run command options files =
-    at_tests (not (has_one_expression command files)) (lacks_keys command options) _ _ _ tt tt
-    (at_tests (lacks_value command options) (lacks_field options) _ _ _ tt tt (once_added command options files))
-
-at_found : (found : Option (List ℕ)) (run : Action) → ReadsOnce run → ReadsOnce (option_map_or (λ w. fails (behind_file w)) found run)
-at_found None run once = once
-at_found (Some w) run once = tt
+    at_tests (not (has_one_expression command files)) (lacks_value command options) _ _ _ tt tt
+    (at_broken (broken command options) (listed_action command options files) (once_listed command options files))
 
 at_any : (command : Command) (m : Meaning) (at_sets : OptionValues → Action) (at_awaits : Awaiting → Action) → ((o : OptionValues) → ReadsOnce (at_sets o)) → ((a : Awaiting) → ReadsOnce (at_awaits a)) → ReadsOnce (at_meaning command m at_sets at_awaits)
 at_any command help at_sets at_awaits all_sets all_awaits = tt
@@ -72,7 +56,7 @@ once_command : (command : Command) (options : OptionValues) (pending : Option Aw
 once_command command options None [] = once_run command options []
 once_command command options None (word ∷ words) =
     at_front (bytes_eq word (codes "--")) (is_option word) _ _ _ (once_run command options words)
-    (at_found (find is_option (word ∷ words)) (run_action command options (word ∷ words)) (once_run command options (word ∷ words)))
+    (once_run command options (word ∷ words))
     (at_any command (setting_meaning command options (split_option word)) (λ next. command_action command next None words) (λ awaiting. command_action command options (Some awaiting) words)
     (λ next. once_command command next None words) (λ awaiting. once_command command options (Some awaiting) words))
 once_command command options (Some awaiting) [] = tt
@@ -92,7 +76,7 @@ once_first : (words : List (List ℕ)) → ReadsOnce (first_action words)
 once_first [] = tt
 once_first (word ∷ words) =
     at_first (is_help word) (is_version word) _ _ _ tt tt
-    (at_command (command_of word) (λ command. command_action command default_options None words) _ (λ command. once_command command default_options None words) tt)
+    (at_command (command_of word) (λ command. command_action command (default_options command) None words) _ (λ command. once_command command (default_options command) None words) tt)
 
 at_front_dir : (other : Bool) (found : Option (List ℕ)) (a b next : Placed) → ReadsOnce a.action → ReadsOnce b.action → ReadsOnce next.action
     → ReadsOnce (cond other a (option_map_or (λ dir. within dir next) found b)).action

@@ -1,25 +1,27 @@
 -- What the program does by its arguments.
-use Rattle.std.specs.Prelude.{ℕ, ◌≤◌, ⊤, ◌+◌, ◌==◌, ◌&&◌, ◌||◌, not, nat_lt, Bool, false, List, [], ◌∷◌, length}
+use Rattle.std.specs.Prelude.{ℕ, ◌≤◌, ⊤, ◌+◌, ◌==◌, ◌&&◌, ◌||◌, not, nat_lt, Bool, true, false, List, [], ◌∷◌, length}
 use Rattle.std.specs.Prelude.{codes, Option, Some, None, is_some, is_none, Result, Ok, Err, if◌then◌else◌}
-use Rattle.std.specs.Option.{option_map_or}
-use Rattle.std.specs.List.{find}
+use Rattle.std.specs.Option.{option_map_or, unwrap_or}
+use Rattle.std.specs.List.{list_any}
 use Rattle.std.specs.Str.{bytes_eq}
-use Rattle.distinct_arguments.specs.Words.{command_of, option_of, has_option, reads_lines, reads_expression}
+use Rattle.distinct_arguments.specs.Commands.{command_of, word_of}
+use Rattle.distinct_arguments.specs.Words.{reads_lines, reads_expression}
 use Rattle.distinct_arguments.specs.Words.{is_help, is_version, is_dir, is_option, is_standard, Setting}
 use Rattle.distinct_arguments.specs.Words.{split_option}
+use Rattle.distinct_arguments.specs.Table.{Condition, Row, rows, option_of, has_option, is_among}
 use Rattle.distinct_arguments.specs.Settings.{SeedValue, seed_number, seed_file, OptionValues, default_options}
-use Rattle.distinct_arguments.specs.Settings.{Mistake, no_command, unknown_command, unknown_option, behind_file}
+use Rattle.distinct_arguments.specs.Settings.{Mistake, no_command, unknown_command, unknown_option}
 use Rattle.distinct_arguments.specs.Settings.{no_value, unneeded_value, not_one_expression, sum_needs_value}
 use Rattle.distinct_arguments.specs.Settings.{separator_needs_field, groups_need_output, needs, excludes}
-use Rattle.distinct_arguments.specs.Settings.{list_excludes_files, standard_twice, with_flag, with_value}
+use Rattle.distinct_arguments.specs.Settings.{list_excludes_files, standard_twice, output_is_input, with_flag, with_value}
+use Rattle.distinct_arguments.specs.Settings.{is_given}
 use Rattle.distinct_arguments.specs.declared.commands.Command.{Command}
 use Rattle.distinct_arguments.specs.declared.commands.Topic.{Topic}
 use Rattle.distinct_arguments.specs.declared.commands.Topic.TheVariants.{Program, Version, Help}
-use Rattle.distinct_arguments.specs.declared.commands.Command.TheVariants.{Sketch, Visits as VisitsCommand, Sum}
-use Rattle.distinct_arguments.specs.declared.options.OptionName.{OptionName}
-use Rattle.distinct_arguments.specs.declared.options.OptionName.TheVariants.{Field, By, Sort, Value, Visits, Groups}
-use Rattle.distinct_arguments.specs.declared.options.OptionName.TheVariants.{Sums, Expect, Progress, Bounds, Hex}
-use Rattle.distinct_arguments.specs.declared.options.OptionName.TheVariants.{Output, OutputDir, Keys}
+use Rattle.distinct_arguments.specs.declared.commands.Command.TheVariants.{Sum}
+use Rattle.distinct_arguments.specs.declared.table.OptionName.{OptionName}
+use Rattle.distinct_arguments.specs.declared.table.Rule.{Rule}
+use Rattle.distinct_arguments.specs.declared.table.Rule.TheVariants.{Needs, Excludes, NeedsField, NeedsOutput}
 
 -- what the program does: it prints a text, runs a command on files, or fails
 pub data Action : Type 0 where
@@ -96,53 +98,71 @@ standard_uses command options files =
 abbrev pub has_one_expression : Command → (files : List (List ℕ)) → Bool
 has_one_expression command files = not (reads_expression command) || length files == 1
 
--- a command that reads an expression has `--field` but not `--keys`, and so reads no lines
-abbrev pub lacks_keys : Command → OptionValues → Bool
-lacks_keys command options = reads_expression command && is_some options.field && not options.keys
-
 -- numbers are to be summed, but no field of them is chosen
 abbrev pub lacks_value : Command → OptionValues → Bool
 lacks_value Sum options = is_none options.value
 lacks_value _ options = false
 
--- a separator is chosen, but no field
-abbrev pub lacks_field : OptionValues → Bool
-lacks_field options = is_some options.separator && is_none options.field && is_none options.by && is_none options.value
+-- whether an option chooses a field
+abbrev pub chooses_field : OptionValues → Bool
+chooses_field options = is_some options.field || is_some options.by || is_some options.value
 
--- sketches of groups would be written as bytes one after another: neither in hexadecimal digits nor to files of their own
-abbrev pub lacks_output : Command → OptionValues → Bool
-lacks_output Sketch options = is_some options.by && not options.hex && is_none options.folder
-lacks_output _ options = false
+-- whether options say where images of groups go: as digits to standard output, or to files of their own
+abbrev pub places_groups : OptionValues → Bool
+places_groups options = options.hex || is_some options.folder
 
--- lines would add both their numbers and one
-abbrev pub has_two_amounts : OptionValues → Bool
-has_two_amounts options = options.visits && is_some options.value
+-- the mistake of an option that is given, if it breaks a rule
+abbrev pub broken_rule : OptionValues → OptionName → Rule → Option Mistake
+broken_rule options option (Needs other) = if is_given options other then None else Some (needs option other)
+broken_rule options option (Excludes other) = if is_given options other then Some (excludes option other) else None
+broken_rule options option NeedsField = if chooses_field options then None else Some separator_needs_field
+broken_rule options option NeedsOutput = if places_groups options then None else Some groups_need_output
 
--- the option by which lines add to sums, if one of the two does
-abbrev pub amount_option : OptionValues → OptionName
-amount_option options = if options.visits then Visits else Value
+-- the first of two mistakes, if there is one
+abbrev pub first_of : (first second : Option Mistake) → Option Mistake
+first_of None second = second
+first_of (Some mistake) second = Some mistake
 
--- a command sketches sums
-abbrev pub adds_to_sums : Command → OptionValues → Bool
-adds_to_sums Sketch options = is_some options.value || options.visits
-adds_to_sums _ options = false
+-- the mistake of an option that is given, if a command breaks this rule
+abbrev pub broken_in : Command → OptionValues → OptionName → Condition → Option Mistake
+broken_in command options option condition =
+    if is_among (word_of command) condition.commands then broken_rule options option condition.rule else None
 
--- a sketch of sums would be grouped
-abbrev pub groups_sums : Command → OptionValues → Bool
-groups_sums command options = adds_to_sums command options && is_some options.by
+-- .. or one of these rules: that of the first
+abbrev pub broken_condition : Command → OptionValues → OptionName → List Condition → Option Mistake
+broken_condition command options option [] = None
+broken_condition command options option (condition ∷ conditions) =
+    first_of (broken_in command options option condition) (broken_condition command options option conditions)
 
--- a sketch of sums would be watched
-abbrev pub watches_sums : Command → OptionValues → Bool
-watches_sums command options = adds_to_sums command options && options.progress
+-- the mistake of options that break a rule of a row: that of the first
+abbrev pub broken_by : Command → OptionValues → Row → Option Mistake
+broken_by command options row = if is_given options row.option then broken_condition command options row.option row.rules else None
 
--- lines would be read in hexadecimal digits
-abbrev pub lacks_sums : Command → OptionValues → Bool
-lacks_sums VisitsCommand options = options.hex && not options.sums
-lacks_sums _ options = false
+-- .. or of these rows
+abbrev pub broken_row : Command → OptionValues → List Row → Option Mistake
+broken_row command options [] = None
+broken_row command options (row ∷ more) = first_of (broken_by command options row) (broken_row command options more)
 
--- bounds are requested of a total, which has none
-abbrev pub bounds_total : Command → OptionValues → Bool
-bounds_total command options = reads_expression command && options.sums && is_some options.bounds
+-- the mistake of options that don't fit together, by the table
+abbrev pub broken : Command → OptionValues → Option Mistake
+broken command options = broken_row command options rows
+
+-- whether a command reads the files of these options as lines
+abbrev pub reads_texts : Command → OptionValues → Bool
+reads_texts command options = reads_lines command && not options.sums || options.keys
+
+-- whether the output of this name is one of the files of lines that a command reads, and may not be; `-` is standard input
+abbrev pub overwrites : Command → OptionValues → (name : List ℕ) → (files : List (List ℕ)) → Bool
+overwrites command options name files =
+    reads_texts command options && not options.force && not (is_standard name) && list_any (λ file. bytes_eq file name) files
+
+-- whether what a command writes may go where its options say
+abbrev pub keeps_files : Command → OptionValues → (files : List (List ℕ)) → Bool
+keeps_files command options files = option_map_or (λ name. not (overwrites command options name files)) options.output true
+
+-- the mistake of an output that is an input
+abbrev pub output_mistake : OptionValues → Mistake
+output_mistake options = output_is_input (unwrap_or options.output [])
 
 -- what a command does with its files, unless they don't fit a list of files, or standard input would be read twice
 abbrev pub listed_action : Command → OptionValues → (files : List (List ℕ)) → Action
@@ -151,47 +171,12 @@ listed_action command options files =
     if nat_lt 1 (standard_uses command options files) then fails standard_twice else
     runs command options files
 
--- .. unless its options for groups don't fit together
-abbrev pub grouped_action : Command → OptionValues → (files : List (List ℕ)) → Action
-grouped_action command options files =
-    if lacks_output command options then fails groups_need_output else
-    if is_some options.sort && is_none options.by then fails (needs Sort By) else
-    if options.groups && not options.hex then fails (needs Groups Hex) else
-    if options.groups && is_some options.expected then fails (excludes Expect Groups) else
-    if is_some options.folder && is_none options.by then fails (needs OutputDir By) else
-    if is_some options.folder && is_some options.output then fails (excludes Output OutputDir) else
-    listed_action command options files
-
--- .. and unless its options for images of sums don't fit together
-abbrev pub summed_action : Command → OptionValues → (files : List (List ℕ)) → Action
-summed_action command options files =
-    if options.sums && options.keys then fails (excludes Sums Keys) else
-    if options.sums && is_some options.field then fails (excludes Sums Field) else
-    if options.sums && options.groups then fails (excludes Sums Groups) else
-    if bounds_total command options then fails (excludes Sums Bounds) else
-    grouped_action command options files
-
--- .. and unless its options for the sums of lines don't fit together
-abbrev pub added_action : Command → OptionValues → (files : List (List ℕ)) → Action
-added_action command options files =
-    if has_two_amounts options then fails (excludes Value Visits) else
-    if groups_sums command options then fails (excludes (amount_option options) By) else
-    if watches_sums command options then fails (excludes (amount_option options) Progress) else
-    if lacks_sums command options then fails (needs Hex Sums) else
-    summed_action command options files
-
 -- what a command does with its options and files, unless they don't fit together
 abbrev pub run_action : Command → OptionValues → (files : List (List ℕ)) → Action
 run_action command options files =
     if not (has_one_expression command files) then fails not_one_expression else
-    if lacks_keys command options then fails (needs Field Keys) else
     if lacks_value command options then fails sum_needs_value else
-    if lacks_field options then fails separator_needs_field else
-    added_action command options files
-
--- .. if no file looks like an option
-abbrev pub files_action : Command → OptionValues → (files : List (List ℕ)) → Action
-files_action command options files = option_map_or (λ word. fails (behind_file word)) (find is_option files) (run_action command options files)
+    option_map_or (λ mistake. fails mistake) (broken command options) (listed_action command options files)
 
 -- what the program does after a word's meaning
 abbrev pub at_meaning : Command → Meaning → (sets : OptionValues → Action) → (awaits : Awaiting → Action) → Action
@@ -205,13 +190,13 @@ abbrev pub at_value : Result OptionValues Mistake → (OptionValues → Action) 
 at_value (Ok options) next = next options
 at_value (Err mistake) next = fails mistake
 
--- What the program does by the words after a command: the value that an option awaits, options, and then files. The
--- files are the words after `--`, or those from the first word on that doesn't look like an option.
+-- What the program does by the words after a command, its options before its files (`Places`): the value that an option
+-- awaits, options, and then files. The files are the words after `--`, or those from the first on that is no option.
 abbrev pub command_action : Command → OptionValues → Option Awaiting → List (List ℕ) → Action
 command_action command options None [] = run_action command options []
 command_action command options None (word ∷ words) =
     if bytes_eq word (codes "--") then run_action command options words else
-    if not (is_option word) then files_action command options (word ∷ words) else
+    if not (is_option word) then run_action command options (word ∷ words) else
     at_meaning command (setting_meaning command options (split_option word))
     (λ next. command_action command next None words)
     (λ awaiting. command_action command options (Some awaiting) words)
@@ -225,7 +210,7 @@ first_action [] = fails no_command
 first_action (word ∷ words) =
     if is_help word then prints Program else
     if is_version word then prints Version else
-    option_map_or (λ command. command_action command default_options None words) (command_of word) (fails (unknown_command word))
+    option_map_or (λ command. command_action command (default_options command) None words) (command_of word) (fails (unknown_command word))
 
 -- what the program does, and before it the folders that it enters one after another
 pub record Placed : Type 0 where

@@ -1,5 +1,9 @@
+pub mod Commands
+pub mod Table
 pub mod Words
+pub mod Places
 pub mod Settings
 pub mod Arguments
 pub mod Faults
 pub mod Texts
+pub mod Shares

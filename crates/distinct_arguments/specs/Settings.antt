@@ -1,21 +1,31 @@
 -- The values of a command's options.
-use Rattle.std.specs.Prelude.{ℕ, ◌-◌, Bool, true, false, List, Option, Some, None, Result, Ok, Err}
+use Rattle.std.specs.Prelude.{ℕ, ◌≤◌, ◌-◌, ◌==◌, Bool, true, false, List, Option, Some, None, is_some, Result, Ok, Err}
+use Rattle.std.specs.Prelude.{if◌then◌else◌}
 use Rattle.std.specs.Option.{option_map, option_map_or, unwrap_or}
+use Rattle.sketch_base.specs.Seed.{seed_hash}
 use Rattle.sketch_base.specs.declared.seed.TheConstants.{DEFAULT_UPDATE_SEED}
 use Rattle.keys_lines.specs.declared.key.Key.{Key}
 use Rattle.keys_lines.specs.declared.key.Key.TheVariants.{Line, Field as FieldKey}
 use Rattle.estimates.specs.declared.bounds.Deviations.{Deviations}
 use Rattle.estimates.specs.declared.bounds.Deviations.TheVariants.{Two}
-use Rattle.distinct_arguments.specs.Words.{number_of, byte_of, seed_of, deviations_of, order_of}
+use Rattle.distinct_arguments.specs.Words.{number_of, byte_of, deviations_of, order_of}
+use Rattle.distinct_arguments.specs.Shares.{ShareNumbers, numbers_of, share_of}
+use Rattle.distinct_arguments.specs.declared.commands.Command.{Command}
+use Rattle.distinct_arguments.specs.declared.commands.Command.TheVariants.{Count, Visits as VisitsCommand}
 use Rattle.distinct_arguments.specs.declared.options.Form.{Form}
 use Rattle.distinct_arguments.specs.declared.options.Order.{Order}
 use Rattle.distinct_arguments.specs.declared.options.Form.TheVariants.{Plain, Tsv as TsvForm, Json as JsonForm}
-use Rattle.distinct_arguments.specs.declared.options.OptionName.{OptionName}
-use Rattle.distinct_arguments.specs.declared.options.OptionName.TheVariants.{LgK, Field, Separator, By, Value}
-use Rattle.distinct_arguments.specs.declared.options.OptionName.TheVariants.{Visits, Sort, Groups, Sums, Seed}
-use Rattle.distinct_arguments.specs.declared.options.OptionName.TheVariants.{SeedFile, FileList, Expect, Progress}
-use Rattle.distinct_arguments.specs.declared.options.OptionName.TheVariants.{Bounds, Tsv, Json, Hex, Output}
-use Rattle.distinct_arguments.specs.declared.options.OptionName.TheVariants.{OutputDir, Keys, Dir}
+use Rattle.distinct_arguments.specs.declared.options.Seed.{Seed as SeedOf}
+use Rattle.distinct_arguments.specs.declared.options.Seed.TheVariants.{Number as NumberSeed, File as FileSeed}
+use Rattle.distinct_arguments.specs.declared.options.Options.{Options}
+use Rattle.distinct_arguments.specs.declared.table.OptionName.{OptionName}
+use Rattle.distinct_arguments.specs.declared.table.OptionName.TheVariants.{Field, Separator, Value, Visits, Keys, Sums}
+use Rattle.distinct_arguments.specs.declared.table.OptionName.TheVariants.{Hex, FileList, Part, Dir, LgK, Seed, SeedFile, By}
+use Rattle.distinct_arguments.specs.declared.table.OptionName.TheVariants.{Groups, Expect, Sort, Progress, Bounds, Tsv}
+use Rattle.distinct_arguments.specs.declared.table.OptionName.TheVariants.{Json, Human, OutputDir, Output, Force, Quiet}
+use Rattle.distinct_arguments.specs.declared.table.Kind.{Kind}
+use Rattle.distinct_arguments.specs.declared.table.Kind.TheVariants as kind
+use Rattle.distinct_arguments.specs.Table.{kind_of}
 
 -- the seed of hashes: a number, or the name of the file that has it
 pub data SeedValue : Type 0 where
@@ -40,15 +50,25 @@ pub record OptionValues : Type 0 where
   pub output : Option (List ℕ)
   pub folder : Option (List ℕ)
   pub list : Option (List ℕ)
+  pub part : Option ShareNumbers
   pub dir : Option (List ℕ)
   pub expected : Option ℕ
   pub bounds : Option Deviations
   pub form : Form
+  pub human : Bool
+  pub force : Bool
+  pub quiet : Bool
+
+-- the default of `--lg-k`: 16 of commands that print counts, whose error is then within 0.4 %, and 12 of the others
+abbrev pub default_lg_k : Command → ℕ
+default_lg_k Count = 16
+default_lg_k VisitsCommand = 16
+default_lg_k _ = 12
 
 -- the defaults
-abbrev pub default_options : OptionValues
-default_options = record {
-  lg_k = 12;
+abbrev pub default_options : Command → OptionValues
+default_options command = record {
+  lg_k = default_lg_k command;
   field = None;
   separator = None;
   by = None;
@@ -64,10 +84,14 @@ default_options = record {
   output = None;
   folder = None;
   list = None;
+  part = None;
   dir = None;
   expected = None;
   bounds = None;
   form = Plain;
+  human = false;
+  force = false;
+  quiet = false;
 }
 
 -- the key that options choose: the field of their number, the first being 1, with a tab (9) as the default separator,
@@ -90,18 +114,10 @@ pub data Mistake : Type 0 where
   no_command : Mistake
   unknown_command : (word : List ℕ) → Mistake
   unknown_option : (name : List ℕ) → Mistake
-  behind_file : (word : List ℕ) → Mistake
   no_value : (name : List ℕ) → Mistake
   unneeded_value : (name : List ℕ) → Mistake
-  wrong_size : Mistake
-  wrong_field : Mistake
-  wrong_group : Mistake
-  wrong_order : Mistake
-  wrong_value : Mistake
-  wrong_separator : Mistake
-  wrong_seed : Mistake
-  wrong_deviations : Mistake
-  wrong_count : Mistake
+  wrong_value : (option : OptionName) → (value : List ℕ) → Mistake
+  zero_seed : (number : ℕ) → Mistake
   not_one_expression : Mistake
   sum_needs_value : Mistake
   separator_needs_field : Mistake
@@ -110,39 +126,165 @@ pub data Mistake : Type 0 where
   excludes : (option other : OptionName) → Mistake
   list_excludes_files : Mistake
   standard_twice : Mistake
+  output_is_input : (name : List ℕ) → Mistake
 
--- the options after an option without a value, if it needs none
+-- whether the seed is in a file
+abbrev pub is_file : SeedValue → Bool
+is_file (seed_number n) = false
+is_file (seed_file name) = true
+
+-- whether a form is that of `--tsv`, and that of `--json`
+abbrev pub is_tsv : Form → Bool
+is_tsv TsvForm = true
+is_tsv _ = false
+
+abbrev pub is_json : Form → Bool
+is_json JsonForm = true
+is_json _ = false
+
+-- whether an option is given; of `--lg-k` and `--seed`, whose defaults aren't marked, it is false
+abbrev pub is_given : OptionValues → OptionName → Bool
+is_given options Field = is_some options.field
+is_given options Separator = is_some options.separator
+is_given options Value = is_some options.value
+is_given options Visits = options.visits
+is_given options Keys = options.keys
+is_given options Sums = options.sums
+is_given options Hex = options.hex
+is_given options FileList = is_some options.list
+is_given options Part = is_some options.part
+is_given options Dir = is_some options.dir
+is_given options LgK = false
+is_given options Seed = false
+is_given options SeedFile = is_file options.seed
+is_given options By = is_some options.by
+is_given options Groups = options.groups
+is_given options Expect = is_some options.expected
+is_given options Sort = is_some options.sort
+is_given options Progress = options.progress
+is_given options Bounds = is_some options.bounds
+is_given options Tsv = is_tsv options.form
+is_given options Json = is_json options.form
+is_given options Human = options.human
+is_given options OutputDir = is_some options.folder
+is_given options Output = is_some options.output
+is_given options Force = options.force
+is_given options Quiet = options.quiet
+
+-- the options after a flag
+abbrev pub set_flag : OptionValues → OptionName → OptionValues
+set_flag options Progress = record options { progress = true }
+set_flag options Hex = record options { hex = true }
+set_flag options Keys = record options { keys = true }
+set_flag options Visits = record options { visits = true }
+set_flag options Groups = record options { groups = true }
+set_flag options Sums = record options { sums = true }
+set_flag options Tsv = record options { form = TsvForm }
+set_flag options Json = record options { form = JsonForm }
+set_flag options Human = record options { human = true }
+set_flag options Force = record options { force = true }
+set_flag options Quiet = record options { quiet = true }
+set_flag options _ = options
+
+-- the options after an option whose value is a number
+abbrev pub set_number : OptionValues → OptionName → ℕ → OptionValues
+set_number options LgK n = record options { lg_k = n }
+set_number options Field n = record options { field = Some n }
+set_number options By n = record options { by = Some n }
+set_number options Value n = record options { value = Some n }
+set_number options Expect n = record options { expected = Some n }
+set_number options _ n = options
+
+-- the options after an option whose value may be any text
+abbrev pub set_text : OptionValues → OptionName → (value : List ℕ) → OptionValues
+set_text options SeedFile value = record options { seed = seed_file value }
+set_text options FileList value = record options { list = Some value }
+set_text options Output value = record options { output = Some value }
+set_text options OutputDir value = record options { folder = Some value }
+set_text options Dir value = record options { dir = Some value }
+set_text options _ value = options
+
+-- a number is one that options of a kind take
+abbrev pub IsOfKind : Kind → ℕ → Type 0
+IsOfKind (kind.Number least greatest) n = (least ≤ n) × (n ≤ greatest)
+IsOfKind _ n = ⊥
+
+-- the options after an option of a kind without a value, if it needs none
+abbrev pub flag_of : Kind → OptionValues → OptionName → Option OptionValues
+flag_of kind.Flag options option = Some (set_flag options option)
+flag_of kind.Deviations options option = Some (record options { bounds = Some Two })
+flag_of _ options option = None
+
 abbrev pub with_flag : OptionValues → OptionName → Option OptionValues
-with_flag options Progress = Some (record options { progress = true })
-with_flag options Hex = Some (record options { hex = true })
-with_flag options Keys = Some (record options { keys = true })
-with_flag options Visits = Some (record options { visits = true })
-with_flag options Groups = Some (record options { groups = true })
-with_flag options Sums = Some (record options { sums = true })
-with_flag options Tsv = Some (record options { form = TsvForm })
-with_flag options Json = Some (record options { form = JsonForm })
-with_flag options Bounds = Some (record options { bounds = Some Two })
-with_flag options _ = None
+with_flag options option = flag_of (kind_of option) options option
 
 -- the options with a value that was read, or what is wrong with it
 abbrev pub value_or : {X : Type 0} → Mistake → (X → OptionValues) → Option X → Result OptionValues Mistake
 value_or mistake changed None = Err mistake
 value_or mistake changed (Some x) = Ok (changed x)
 
--- the options after an option of this name and its value, which replaces an earlier value of that option
+-- the seed that a word spells: a number whose seed hash isn't 0
+abbrev pub seed_or : (word : List ℕ) → (number : Option ℕ) → Result ℕ Mistake
+seed_or word None = Err (wrong_value Seed word)
+seed_or word (Some number) = if seed_hash number == 0 then Err (zero_seed number) else Ok number
+
+abbrev pub seed_in : (word : List ℕ) → Result ℕ Mistake
+seed_in word = seed_or word (number_of 0 18446744073709551615 word)
+
+-- the options with the seed that a word spells
+abbrev pub with_seed : OptionValues → Result ℕ Mistake → Result OptionValues Mistake
+with_seed options (Ok number) = Ok (record options { seed = seed_number number })
+with_seed options (Err mistake) = Err mistake
+
+-- a value, or a mistake if there is none
+abbrev pub given_or : {X : Type 0} → Mistake → Option X → Result X Mistake
+given_or mistake None = Err mistake
+given_or mistake (Some x) = Ok x
+
+-- the options after an option of a kind and this name, and its value, which replaces an earlier one
+abbrev pub value_of : Kind → OptionValues → OptionName → (name value : List ℕ) → Result OptionValues Mistake
+value_of kind.Flag options option name value = Err (unneeded_value name)
+value_of (kind.Number least greatest) options option name value =
+    value_or (wrong_value option value) (λ n. set_number options option n) (number_of least greatest value)
+value_of kind.Byte options option name value = value_or (wrong_value option value) (λ byte. record options { separator = Some byte }) (byte_of value)
+value_of kind.Seed options option name value = with_seed options (seed_in value)
+value_of kind.Deviations options option name value = value_or (wrong_value option value) (λ d. record options { bounds = Some d }) (deviations_of value)
+value_of kind.Order options option name value = value_or (wrong_value option value) (λ order. record options { sort = Some order }) (order_of value)
+value_of kind.Share options option name value = value_or (wrong_value option value) (λ share. record options { part = Some share }) (share_of value)
+value_of kind.Text options option name value = Ok (set_text options option value)
+
 abbrev pub with_value : OptionValues → OptionName → (name value : List ℕ) → Result OptionValues Mistake
-with_value options LgK name value = value_or wrong_size (λ n. record options { lg_k = n }) (number_of 4 26 value)
-with_value options Field name value = value_or wrong_field (λ n. record options { field = Some n }) (number_of 1 4294967295 value)
-with_value options By name value = value_or wrong_group (λ n. record options { by = Some n }) (number_of 1 4294967295 value)
-with_value options Sort name value = value_or wrong_order (λ order. record options { sort = Some order }) (order_of value)
-with_value options Value name value = value_or wrong_value (λ n. record options { value = Some n }) (number_of 1 4294967295 value)
-with_value options Separator name value = value_or wrong_separator (λ byte. record options { separator = Some byte }) (byte_of value)
-with_value options Seed name value = value_or wrong_seed (λ n. record options { seed = seed_number n }) (seed_of value)
-with_value options SeedFile name value = Ok (record options { seed = seed_file value })
-with_value options FileList name value = Ok (record options { list = Some value })
-with_value options Expect name value = value_or wrong_count (λ n. record options { expected = Some n }) (number_of 1 4294967295 value)
-with_value options Bounds name value = value_or wrong_deviations (λ d. record options { bounds = Some d }) (deviations_of value)
-with_value options Output name value = Ok (record options { output = Some value })
-with_value options OutputDir name value = Ok (record options { folder = Some value })
-with_value options Dir name value = Ok (record options { dir = Some value })
-with_value options _ name value = Err (unneeded_value name)
+with_value options option name value = value_of (kind_of option) options option name value
+
+-- the values that options have
+abbrev pub seed_value : SeedOf → SeedValue
+seed_value (NumberSeed n) = seed_number n
+seed_value (FileSeed name) = seed_file name.now
+
+abbrev pub options_of : Options → OptionValues
+options_of o = record {
+  lg_k = o.lg_k;
+  field = o.field;
+  separator = o.separator;
+  by = o.by;
+  sort = o.sort;
+  value = o.value;
+  visits = o.visits;
+  groups = o.groups;
+  sums = o.sums;
+  seed = seed_value o.seed;
+  hex = o.hex;
+  keys = o.keys;
+  progress = o.progress;
+  output = option_map (λ name. name.now) o.output;
+  folder = option_map (λ name. name.now) o.folder;
+  list = option_map (λ name. name.now) o.list;
+  part = option_map numbers_of o.part;
+  dir = option_map (λ name. name.now) o.dir;
+  expected = o.expected;
+  bounds = o.bounds;
+  form = o.form;
+  human = o.human;
+  force = o.force;
+  quiet = o.quiet;
+}

@@ -3,18 +3,18 @@ ghost use Rattle.std.specs.Prelude.{◌≡◌, ◌+◌, ◌∷◌, true, false, 
 ghost use Rattle.std.specs.Option.{option_map};
 ghost use Rattle.std.specs.Str.{bytes_eq};
 ghost use Rattle.distinct_arguments.specs.Arguments.{action_of, first_action, command_action, option_meaning};
-ghost use Rattle.distinct_arguments.specs.Arguments.{setting_meaning};
+ghost use Rattle.distinct_arguments.specs.Arguments.{setting_meaning, value_meaning, flag_meaning};
+ghost use Rattle.distinct_arguments.specs.Settings.{with_flag, with_value};
 ghost use Rattle.distinct_arguments.specs.Faults.{options_of, IsFront, IsMeaning, IsStep, ParsesAs};
 ghost use Rattle.distinct_arguments.specs.Words.{Setting, is_option, words_of};
 
 use crate::commands::{Command, Request, Topic};
 use crate::fault::{Fault, WrongWord, quoting};
-use crate::files::{files_request, run_request};
-use crate::options::{OptionName, Options};
+use crate::files::run_request;
+use crate::options::Options;
 use crate::settings::{with_flag, with_value};
-use crate::words::{
-    command_of, has_option, is_dir, is_help, is_option, is_version, option_of, split_option,
-};
+use crate::table::{OptionName, has_option, option_of};
+use crate::words::{command_of, is_dir, is_help, is_option, is_version, split_option};
 use std::alloc::Global;
 
 /// What a word means that looks like an option: a request for help, other values of options, an option whose value is
@@ -27,7 +27,33 @@ enum Meaning<'a> {
     Wrong(Fault),
 }
 
-/// What an option of a command means, with the value after its `=` or without one.
+/// What an option of this name means with a value.
+fn meaning_with<'a>(
+    alloc: Global,
+    options: Options<'a>,
+    option: OptionName,
+    name: &str,
+    value: &'a str,
+) -> Meaning<'a>
+    ensures { IsMeaning name.now result (value_meaning (with_value (options_of options.entry) option name.now value.now)) }
+{
+    match with_value(alloc, options, option, name, value) {
+        Ok(changed) => Meaning::Sets(changed),
+        Err(fault) => Meaning::Wrong(fault),
+    }
+}
+
+/// What an option of this name means without a value.
+fn meaning_without<'a>(options: Options<'a>, option: OptionName, name: &str) -> Meaning<'a>
+    ensures { IsMeaning name.now result (flag_meaning (record { option = option; name = name.now }) (with_flag (options_of options.entry) option)) }
+{
+    match with_flag(options, option) {
+        Some(changed) => Meaning::Sets(changed),
+        None => Meaning::Awaits(option),
+    }
+}
+
+/// What an option of a command means, with the value that its word has or without one.
 fn meaning_of_option<'a>(
     alloc: Global,
     command: Command,
@@ -43,14 +69,8 @@ fn meaning_of_option<'a>(
         return Meaning::Wrong(quoting(alloc, WrongWord::UnknownOption, name));
     }
     match value {
-        Some(text) => match with_value(alloc, options, option, name, text) {
-            Ok(changed) => Meaning::Sets(changed),
-            Err(fault) => Meaning::Wrong(fault),
-        },
-        None => match with_flag(options, option) {
-            Some(changed) => Meaning::Sets(changed),
-            None => Meaning::Awaits(option),
-        },
+        Some(text) => meaning_with(alloc, options, option, name, text),
+        None => meaning_without(options, option, name),
     }
 }
 
@@ -77,13 +97,12 @@ fn meaning_of<'a>(
     }
 }
 
-/// What the next words are: an option, a request for help, the files, the files after `--`, or a fault.
+/// What the next words are: an option, a request for help, the files, or a fault.
 #[derive(Debug, Drop)]
 enum Step<'a> {
     Next(Options<'a>, &'a [String]),
     Help,
     Files(&'a [String]),
-    Behind(&'a [String]),
     Wrong(Fault),
 }
 
@@ -139,11 +158,11 @@ fn read_step<'a>(command: Command, options: Options<'a>, words: &'a [String]) ->
         (command_action command (options_of options.entry) None (words_of words.now)) result }
 {
     let Some((word, others)) = words.split_first() else {
-        return Step::Behind(words);
+        return Step::Files(words);
     };
     let next = word.as_str();
     if next == "--" {
-        return Step::Behind(others);
+        return Step::Files(others);
     }
     if !is_option(next) {
         return Step::Files(words);
@@ -162,8 +181,7 @@ fn read_command<'a>(
     match read_step(command, options, words) {
         Step::Next(changed, behind) => read_command(command, changed, behind),
         Step::Help => Ok(Request::Print(Topic::Help(command))),
-        Step::Files(files) => files_request(command, options, files),
-        Step::Behind(files) => run_request(command, options, files),
+        Step::Files(files) => run_request(command, options, files),
         Step::Wrong(fault) => Err(fault),
     }
 }
@@ -183,7 +201,7 @@ fn read_words(words: &[String]) -> Result<Request<'_>, Fault>
         return Ok(Request::Print(Topic::Version));
     }
     match command_of(word) {
-        Some(command) => read_command(command, Options::new(), rest),
+        Some(command) => read_command(command, Options::new(command), rest),
         None => Err(quoting(*first.allocator(), WrongWord::UnknownCommand, word)),
     }
 }
@@ -219,10 +237,11 @@ pub fn front_of(words: &[String]) -> Front<'_>
     }
 }
 
-/// What the arguments request, without the program's name. In front of the command each `-C` has a folder
-/// (`front_of`). If they are wrong, it fails with the first fault of a word from the left; if no word has one, with
-/// the first that applies of `NotOneExpression`, `Needs` of `--field`, `SumNeedsValue`, `SeparatorNeedsField`, those
-/// of sums and of groups, `ListExcludesFiles` and `StandardTwice`. If memory for the text of a fault is refused, it fails with `Memory`.
+/// What the arguments request, without the program's name, the options before the files (`options_first`). In front
+/// of the command each `-C` has a folder (`front_of`). If they are wrong, it fails with the first fault of a word from
+/// the left; if no word has one, with the first that applies of `NotOneExpression`, `SumNeedsValue`, the first rule of
+/// the table that is broken, `ListExcludesFiles` and `StandardTwice`. If memory for the text of a fault is refused, it
+/// fails with `Memory`.
 pub fn read_arguments(words: &[String]) -> Result<Request<'_>, Fault>
     ensures { ParsesAs result (action_of (words_of words.now)) }
 {

@@ -1,10 +1,8 @@
 //! What is wrong with arguments.
 ghost use Rattle.std.specs.Prelude.{◌≡◌};
-ghost use Rattle.distinct_arguments.specs.Settings.{wrong_seed};
 ghost use Rattle.distinct_arguments.specs.Faults.{Reports, fault_status, mistake_with};
 
-use crate::options::OptionName;
-use crate::words::{name_of, number_of};
+use crate::table::{Kind, OptionName, kind_of, name_of, why_excluded, why_needed};
 use std::alloc::Global;
 use std::fmt;
 
@@ -17,32 +15,14 @@ pub enum Fault {
     UnknownCommand(String),
     /// The command doesn't have this option.
     UnknownOption(String),
-    /// This word is after a file and looks like an option.
-    BehindFile(String),
     /// This option takes a value, and is the last argument.
     NoValue(String),
     /// This option has a value and takes none.
     UnneededValue(String),
-    /// The value of `--lg-k` is not a number from 4 to 26.
-    WrongSize,
-    /// The value of `--field` is not a number from 1 to 2^32 - 1.
-    WrongField,
-    /// The value of `--by` is not a number from 1 to 2^32 - 1.
-    WrongGroup,
-    /// The value of `--sort` is not `name` or `estimate`.
-    WrongOrder,
-    /// The value of `--value` is not a number from 1 to 2^32 - 1.
-    WrongValue,
-    /// The value of `--separator` is not one byte.
-    WrongSeparator,
-    /// The value of `--seed` is not a number from 0 to 2^64 - 1.
-    WrongSeed,
+    /// The value of this option is not one that it takes.
+    WrongValue(OptionName, String),
     /// The value of `--seed` is this number, from 0 to 2^64 - 1, whose seed hash is 0.
     ZeroSeed(u64),
-    /// The value of `--bounds` is not 1, 2 or 3.
-    WrongDeviations,
-    /// The value of `--expect` is not a number from 1 to 2^32 - 1.
-    WrongCount,
     /// `eval` doesn't have exactly one argument after its options.
     NotOneExpression,
     /// `sum` has no `--value`.
@@ -59,6 +39,8 @@ pub enum Fault {
     ListExcludesFiles,
     /// Standard input would be read twice.
     StandardTwice,
+    /// The file of this name, to which the output goes, is one of those that are read.
+    OutputIsInput(String),
     /// Memory for the text of a fault was refused.
     Memory,
 }
@@ -82,12 +64,14 @@ pub(crate) enum WrongWord {
     UnknownCommand,
     /// It is an option that the command doesn't have.
     UnknownOption,
-    /// It is after a file and looks like an option.
-    BehindFile,
     /// It is an option whose value is missing.
     NoValue,
     /// It is an option that takes no value and has one.
     UnneededValue,
+    /// It is a value that this option does not take.
+    WrongValue(OptionName),
+    /// It is the file of the output, and is read.
+    OutputIsInput,
 }
 
 /// The fault that quotes a word; `Memory` if memory for the word is refused.
@@ -100,20 +84,10 @@ pub(crate) fn quoting(alloc: Global, wrong: WrongWord, word: &str) -> Fault
     match wrong {
         WrongWord::UnknownCommand => Fault::UnknownCommand(text),
         WrongWord::UnknownOption => Fault::UnknownOption(text),
-        WrongWord::BehindFile => Fault::BehindFile(text),
         WrongWord::NoValue => Fault::NoValue(text),
         WrongWord::UnneededValue => Fault::UnneededValue(text),
-    }
-}
-
-/// The fault of a word that was given as a seed and is none: `ZeroSeed` if it is a number whose seed hash is 0,
-/// otherwise `WrongSeed`.
-pub(crate) fn wrong_seed(word: &str) -> Fault
-    ensures { Reports result wrong_seed }
-{
-    match number_of(word, 0, u64::MAX) {
-        Some(number) => Fault::ZeroSeed(number),
-        None => Fault::WrongSeed,
+        WrongWord::WrongValue(option) => Fault::WrongValue(option, text),
+        WrongWord::OutputIsInput => Fault::OutputIsInput(text),
     }
 }
 
@@ -134,32 +108,19 @@ impl fmt::Display for Escaped<'_> {
     }
 }
 
-/// What an option is for that needs another, as the end of a message.
-fn why_needed(option: OptionName) -> &'static str {
-    match option {
-        OptionName::Field => ": without it eval reads images",
-        OptionName::Hex => ": without it visits reads lines",
-        OptionName::Sort => ", whose groups it orders",
-        _ => "",
-    }
-}
-
-/// What to do in place of using two options together, as the end of a message.
-fn why_excluded(option: OptionName, other: OptionName) -> &'static str {
-    match (option, other) {
-        (OptionName::Value, OptionName::Visits) => ": a line adds either its number or 1",
-        (OptionName::Sums, OptionName::Keys) => {
-            ": sketch --value N makes images of sums from lines"
+impl fmt::Display for Kind {
+    /// The values that options of a kind take.
+    fn fmt<W: fmt::Write>(&self, f: &mut fmt::Formatter<W>) -> fmt::Result {
+        match *self {
+            Kind::Flag => write!(f, "no value"),
+            Kind::Number(least, greatest) => write!(f, "a number from {least} to {greatest}"),
+            Kind::Byte => write!(f, "one byte"),
+            Kind::Seed => write!(f, "a number from 0 to {}", u64::MAX),
+            Kind::Deviations => write!(f, "1, 2 or 3, as in --bounds=2"),
+            Kind::Order => write!(f, "name or estimate"),
+            Kind::Share => write!(f, "a part and the number of parts, as 1/8 to 8/8"),
+            Kind::Text => write!(f, "any text"),
         }
-        (OptionName::Sums, OptionName::Field) => ": pass --field to sketch --visits",
-        (OptionName::Sums, OptionName::Groups) => {
-            ": unite the images of each group in a run of their own"
-        }
-        (OptionName::Sums, OptionName::Bounds) => ": a total has no bounds",
-        (OptionName::Expect, OptionName::Groups) => ": drop --expect",
-        (_, OptionName::By) => ": run sketch once per group",
-        (_, OptionName::Progress) => ": drop --progress",
-        _ => "",
     }
 }
 
@@ -176,12 +137,6 @@ impl fmt::Display for Fault {
                 Escaped(word)
             ),
             Fault::UnknownOption(name) => write!(f, "{}: not an option", Escaped(name)),
-            Fault::BehindFile(word) => write!(
-                f,
-                "{}: options come before files (a file of this name: ./{})",
-                Escaped(word),
-                Escaped(word)
-            ),
             Fault::NoValue(name) => write!(
                 f,
                 "{}: missing value: pass it as the next word or after =",
@@ -192,21 +147,17 @@ impl fmt::Display for Fault {
                 "{}: takes no value: pass it without =",
                 Escaped(name)
             ),
-            Fault::WrongSize => write!(f, "--lg-k takes a number from 4 to 26"),
-            Fault::WrongField => write!(f, "--field takes a number from 1 to 4294967295"),
-            Fault::WrongGroup => write!(f, "--by takes a number from 1 to 4294967295"),
-            Fault::WrongOrder => write!(f, "--sort takes name or estimate"),
-            Fault::WrongValue => write!(f, "--value takes a number from 1 to 4294967295"),
-            Fault::WrongSeparator => write!(f, "--separator takes one byte; a tab is the default"),
-            Fault::WrongSeed => {
-                write!(f, "--seed takes a number from 0 to 18446744073709551615")
-            }
+            Fault::WrongValue(option, value) => write!(
+                f,
+                "{} takes {}, not '{}'",
+                name_of(*option),
+                kind_of(*option),
+                Escaped(value)
+            ),
             Fault::ZeroSeed(number) => write!(
                 f,
                 "{number} can't be a seed (its seed hash is 0): pass another"
             ),
-            Fault::WrongDeviations => write!(f, "--bounds takes 1, 2 or 3, as in --bounds=2"),
-            Fault::WrongCount => write!(f, "--expect takes a number from 1 to 4294967295"),
             Fault::NotOneExpression => write!(
                 f,
                 "eval takes one expression in quotes, such as 'mon + tue - wed'"
@@ -221,7 +172,7 @@ impl fmt::Display for Fault {
                 "{} needs {}{}",
                 name_of(*option),
                 name_of(*other),
-                why_needed(*option)
+                why_needed(*option, *other)
             ),
             Fault::Excludes(option, other) => write!(
                 f,
@@ -237,6 +188,11 @@ impl fmt::Display for Fault {
             Fault::StandardTwice => write!(
                 f,
                 "standard input would be read twice: read one of the two from a file"
+            ),
+            Fault::OutputIsInput(name) => write!(
+                f,
+                "{}: --output would replace this file, which is read: name another file, or pass --force",
+                Escaped(name)
             ),
             Fault::Memory => write!(f, "out of memory"),
         }

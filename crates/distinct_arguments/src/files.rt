@@ -1,21 +1,25 @@
 //! The files after the options, and whether they fit the options.
-ghost use Rattle.std.specs.Prelude.{◌≡◌, ◌≤◌, ◌+◌, nat_lt, string_bytes, if◌then◌else◌};
+ghost use Rattle.std.specs.Prelude.{◌≡◌, ◌≤◌, ◌+◌, map, nat_lt, true, false, if◌then◌else◌, OnOk, OnErr, IfErr};
 ghost use Rattle.std.specs.Option.{option_map};
-ghost use Rattle.std.specs.List.{find};
+ghost use Rattle.std.specs.List.{list_any};
+ghost use Rattle.std.specs.Str.{bytes_eq};
 ghost use Rattle.distinct_arguments.specs.Arguments.{standard_files, standard_uses, is_standard_seed, is_standard_list};
 ghost use Rattle.distinct_arguments.specs.Arguments.{is_standard_default, has_one_expression, lacks_value};
-ghost use Rattle.distinct_arguments.specs.Arguments.{lacks_field, lacks_output};
-ghost use Rattle.distinct_arguments.specs.Arguments.{amount_option, has_two_amounts, adds_to_sums, groups_sums};
-ghost use Rattle.distinct_arguments.specs.Arguments.{watches_sums, lacks_sums};
-ghost use Rattle.distinct_arguments.specs.Arguments.{run_action, added_action, summed_action, grouped_action};
-ghost use Rattle.distinct_arguments.specs.Arguments.{listed_action, files_action};
-ghost use Rattle.distinct_arguments.specs.Faults.{options_of, seed_value, ParsesAs};
-ghost use Rattle.distinct_arguments.specs.Words.{is_option, is_standard, reads_lines, reads_expression, words_of};
+ghost use Rattle.distinct_arguments.specs.Arguments.{chooses_field, places_groups, broken_rule, broken_in};
+ghost use Rattle.distinct_arguments.specs.Arguments.{broken_condition, broken_by, broken_row, broken};
+ghost use Rattle.distinct_arguments.specs.Arguments.{run_action, listed_action};
+ghost use Rattle.distinct_arguments.specs.Arguments.{keeps_files, output_mistake, reads_texts};
+ghost use Rattle.distinct_arguments.specs.Faults.{options_of, seed_value, ParsesAs, Reports, ReportsIf};
+ghost use Rattle.distinct_arguments.specs.Table.{condition_in, row_in};
+ghost use Rattle.distinct_arguments.specs.Words.{is_standard, reads_lines, reads_expression, words_of};
 
 use crate::commands::{Command, Request};
 use crate::fault::{Fault, WrongWord, quoting};
-use crate::options::{OptionName, Options, Seed};
-use crate::words::is_option;
+use crate::options::{Options, Seed};
+use crate::settings::is_given;
+use crate::table::{Condition, OptionName, Row, Rule, all_rows, is_among};
+use crate::words::word_of;
+use std::alloc::Global;
 
 /// Whether a file name means standard input.
 fn is_standard(name: &str) -> bool
@@ -115,16 +119,6 @@ fn is_read_twice(command: Command, options: &Options<'_>, files: &[String]) -> b
     is_repeated(seed + list + default, files)
 }
 
-/// Whether a command would write sketches of groups as bytes one after another.
-fn lacks_output(command: Command, options: &Options<'_>) -> bool
-    ensures { result ≡ lacks_output command (options_of options.now) }
-{
-    match command {
-        Command::Sketch => { options.by.is_some() && !options.hex && options.folder.is_none() }
-        _ => false,
-    }
-}
-
 /// Whether a command sums numbers, and no field has them.
 fn lacks_value(command: Command, options: &Options<'_>) -> bool
     ensures { result ≡ lacks_value command (options_of options.now) }
@@ -135,64 +129,97 @@ fn lacks_value(command: Command, options: &Options<'_>) -> bool
     }
 }
 
-/// Whether lines would add both their numbers and one.
-fn has_two_amounts(options: &Options<'_>) -> bool
-    ensures { result ≡ has_two_amounts (options_of options.now) }
+/// Whether an option chooses a field.
+fn chooses_field(options: &Options<'_>) -> bool
+    ensures { result ≡ chooses_field (options_of options.now) }
 {
-    options.visits && options.value.is_some()
+    options.field.is_some() || options.by.is_some() || options.value.is_some()
 }
 
-/// The option by which lines add to sums, if one of the two does.
-fn amount_option(options: &Options<'_>) -> OptionName
-    ensures { result ≡ amount_option (options_of options.now) }
+/// Whether options say where images of groups go.
+fn places_groups(options: &Options<'_>) -> bool
+    ensures { result ≡ places_groups (options_of options.now) }
 {
-    if options.visits {
-        OptionName::Visits
+    options.hex || options.folder.is_some()
+}
+
+/// The fault of an option that is given, if it breaks a rule.
+fn broken_rule(options: &Options<'_>, option: OptionName, rule: Rule) -> Option<Fault>
+    ensures { ReportsIf result (broken_rule (options_of options.now) option rule) }
+{
+    match rule {
+        Rule::Needs(other) if !is_given(options, other) => Some(Fault::Needs(option, other)),
+        Rule::Excludes(other) if is_given(options, other) => Some(Fault::Excludes(option, other)),
+        Rule::NeedsField if !chooses_field(options) => Some(Fault::SeparatorNeedsField),
+        Rule::NeedsOutput if !places_groups(options) => Some(Fault::GroupsNeedOutput),
+        _ => None,
+    }
+}
+
+/// The fault of an option that is given, if a command breaks this rule.
+fn broken_in(
+    command: Command,
+    options: &Options<'_>,
+    option: OptionName,
+    condition: &Condition,
+) -> Option<Fault>
+    ensures { ReportsIf result (broken_in command (options_of options.now) option (condition_in condition.now)) }
+{
+    if is_among(word_of(command), condition.0) {
+        broken_rule(options, option, condition.1)
     } else {
-        OptionName::Value
+        None
     }
 }
 
-/// Whether a command sketches sums.
-fn adds_to_sums(command: Command, options: &Options<'_>) -> bool
-    ensures { result ≡ adds_to_sums command (options_of options.now) }
+/// The fault of an option that is given, if a command breaks one of these rules: that of the first.
+fn broken_condition(
+    command: Command,
+    options: &Options<'_>,
+    option: OptionName,
+    mut conditions: &[Condition],
+) -> Option<Fault>
+    ensures { ReportsIf result
+        (broken_condition command (options_of options.now) option (map condition_in conditions.entry.now)) }
 {
-    match command {
-        Command::Sketch => options.value.is_some() || options.visits,
-        _ => false,
+    while let [condition, others @ ..] = conditions {
+        if let Some(fault) = broken_in(command, options, option, condition) {
+            return Some(fault);
+        }
+        conditions = others;
+    }
+    None
+}
+
+/// The fault of options that break a rule of a row: that of the first.
+fn broken_by(command: Command, options: &Options<'_>, row: &Row) -> Option<Fault>
+    ensures { ReportsIf result (broken_by command (options_of options.now) (row_in row.now)) }
+{
+    if is_given(options, row.0) {
+        broken_condition(command, options, row.0, row.5)
+    } else {
+        None
     }
 }
 
-/// Whether a sketch of sums would be grouped.
-fn groups_sums(command: Command, options: &Options<'_>) -> bool
-    ensures { result ≡ groups_sums command (options_of options.now) }
+/// The fault of options that break a rule of these rows: that of the first.
+fn broken_row(command: Command, options: &Options<'_>, mut rows: &[Row]) -> Option<Fault>
+    ensures { ReportsIf result (broken_row command (options_of options.now) (map row_in rows.entry.now)) }
 {
-    adds_to_sums(command, options) && options.by.is_some()
-}
-
-/// Whether a sketch of sums would be watched.
-fn watches_sums(command: Command, options: &Options<'_>) -> bool
-    ensures { result ≡ watches_sums command (options_of options.now) }
-{
-    adds_to_sums(command, options) && options.progress
-}
-
-/// Whether a command would read lines in hexadecimal digits.
-fn lacks_sums(command: Command, options: &Options<'_>) -> bool
-    ensures { result ≡ lacks_sums command (options_of options.now) }
-{
-    match command {
-        Command::Visits => options.hex && !options.sums,
-        _ => false,
+    while let [row, others @ ..] = rows {
+        if let Some(fault) = broken_by(command, options, row) {
+            return Some(fault);
+        }
+        rows = others;
     }
+    None
 }
 
-/// Whether there is a separator, but no option that chooses a field.
-fn lacks_field(options: &Options<'_>) -> bool
-    ensures { result ≡ lacks_field (options_of options.now) }
+/// The fault of options that don't fit together, by the table.
+fn broken(command: Command, options: &Options<'_>) -> Option<Fault>
+    ensures { ReportsIf result (broken command (options_of options.now)) }
 {
-    let has_field = options.field.is_some() || options.by.is_some() || options.value.is_some();
-    options.separator.is_some() && !has_field
+    broken_row(command, options, &all_rows())
 }
 
 /// The request to run a command on files, if these fit a list of files, and standard input is read once.
@@ -212,81 +239,6 @@ fn listed_request<'a>(
     Ok(Request::Run(command, options, files))
 }
 
-/// The request to run a command on files, if its options for groups fit together, and the files fit them.
-fn grouped_request<'a>(
-    command: Command,
-    options: Options<'a>,
-    files: &'a [String],
-) -> Result<Request<'a>, Fault>
-    ensures { ParsesAs result (grouped_action command (options_of options.entry) (words_of files.now)) }
-{
-    if lacks_output(command, &options) {
-        return Err(Fault::GroupsNeedOutput);
-    }
-    if options.sort.is_some() && options.by.is_none() {
-        return Err(Fault::Needs(OptionName::Sort, OptionName::By));
-    }
-    if options.groups && !options.hex {
-        return Err(Fault::Needs(OptionName::Groups, OptionName::Hex));
-    }
-    if options.groups && options.expected.is_some() {
-        return Err(Fault::Excludes(OptionName::Expect, OptionName::Groups));
-    }
-    if options.folder.is_some() && options.by.is_none() {
-        return Err(Fault::Needs(OptionName::OutputDir, OptionName::By));
-    }
-    if options.folder.is_some() && options.output.is_some() {
-        return Err(Fault::Excludes(OptionName::Output, OptionName::OutputDir));
-    }
-    listed_request(command, options, files)
-}
-
-/// The request to run a command on files, if its options for images of sums fit together, and the files fit them.
-fn summed_request<'a>(
-    command: Command,
-    options: Options<'a>,
-    files: &'a [String],
-) -> Result<Request<'a>, Fault>
-    ensures { ParsesAs result (summed_action command (options_of options.entry) (words_of files.now)) }
-{
-    if options.sums && options.keys {
-        return Err(Fault::Excludes(OptionName::Sums, OptionName::Keys));
-    }
-    if options.sums && options.field.is_some() {
-        return Err(Fault::Excludes(OptionName::Sums, OptionName::Field));
-    }
-    if options.sums && options.groups {
-        return Err(Fault::Excludes(OptionName::Sums, OptionName::Groups));
-    }
-    if reads_expression(command) && options.sums && options.bounds.is_some() {
-        return Err(Fault::Excludes(OptionName::Sums, OptionName::Bounds));
-    }
-    grouped_request(command, options, files)
-}
-
-/// The request to run a command on files, if its options for the sums of lines fit together, and the files fit them.
-fn added_request<'a>(
-    command: Command,
-    options: Options<'a>,
-    files: &'a [String],
-) -> Result<Request<'a>, Fault>
-    ensures { ParsesAs result (added_action command (options_of options.entry) (words_of files.now)) }
-{
-    if has_two_amounts(&options) {
-        return Err(Fault::Excludes(OptionName::Value, OptionName::Visits));
-    }
-    if groups_sums(command, &options) {
-        return Err(Fault::Excludes(amount_option(&options), OptionName::By));
-    }
-    if watches_sums(command, &options) {
-        return Err(Fault::Excludes(amount_option(&options), OptionName::Progress));
-    }
-    if lacks_sums(command, &options) {
-        return Err(Fault::Needs(OptionName::Hex, OptionName::Sums));
-    }
-    summed_request(command, options, files)
-}
-
 /// The request to run a command on files, if its options and the files fit together.
 pub(crate) fn run_request<'a>(
     command: Command,
@@ -298,42 +250,55 @@ pub(crate) fn run_request<'a>(
     if !has_one_expression(command, files) {
         return Err(Fault::NotOneExpression);
     }
-    if reads_expression(command) && options.field.is_some() && !options.keys {
-        return Err(Fault::Needs(OptionName::Field, OptionName::Keys));
-    }
     if lacks_value(command, &options) {
         return Err(Fault::SumNeedsValue);
     }
-    if lacks_field(&options) {
-        return Err(Fault::SeparatorNeedsField);
+    match broken(command, &options) {
+        Some(fault) => Err(fault),
+        None => listed_request(command, options, files),
     }
-    added_request(command, options, files)
 }
 
-/// The first file that looks like an option.
-fn first_option(files: &[String]) -> Option<&String>
-    ensures { option_map (λ file. string_bytes file.now) result ≡ find is_option (words_of files.now) }
+/// Whether a command reads files as lines.
+pub fn reads_texts(command: Command, options: &Options<'_>) -> bool
+    ensures { result ≡ reads_texts command (options_of options.now) }
+{
+    reads_lines(command) && !options.sums || options.keys
+}
+
+/// Whether a name is one of these.
+fn is_named(name: &str, files: &[String]) -> bool
+    ensures { result ≡ list_any (λ file. bytes_eq file name.now) (words_of files.now) }
 {
     let mut rest = files;
     while let Some((file, others)) = rest.split_first() {
-        if is_option(file.as_str()) {
-            return Some(file);
+        if file.as_str() == name {
+            return true;
         }
         rest = others;
     }
-    None
+    false
 }
 
-/// The request to run a command on files, none of which may look like an option.
-pub(crate) fn files_request<'a>(
+/// Fails with `OutputIsInput` if the output of a command would replace one of these files, which it reads as lines,
+/// unless `--force` is given. Only names are compared, byte by byte. If memory for the name is refused, it fails with
+/// `Memory`.
+pub fn check_output(
+    alloc: Global,
     command: Command,
-    options: Options<'a>,
-    files: &'a [String],
-) -> Result<Request<'a>, Fault>
-    ensures { ParsesAs result (files_action command (options_of options.entry) (words_of files.now)) }
+    options: &Options<'_>,
+    files: &[String],
+) -> Result<(), Fault>
+    ensures kept { OnOk result (keeps_files command (options_of options.now) (words_of files.now) ≡ true) }
+    ensures refused { OnErr result (keeps_files command (options_of options.now) (words_of files.now) ≡ false) }
+    ensures reports { IfErr result (λ fault. Reports fault (output_mistake (options_of options.now))) }
 {
-    match first_option(files) {
-        Some(word) => Err(quoting(*word.allocator(), WrongWord::BehindFile, word.as_str())),
-        None => run_request(command, options, files),
+    let Some(name) = options.output else {
+        return Ok(());
+    };
+    let is_checked = reads_texts(command, options) && !options.force && !is_standard(name);
+    if is_checked && is_named(name, files) {
+        return Err(quoting(alloc, WrongWord::OutputIsInput, name));
     }
+    Ok(())
 }

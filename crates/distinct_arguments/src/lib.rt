@@ -1,7 +1,7 @@
 //! The arguments of the program `distinct`: what they request, the first fault in them, its message, and the texts of
 //! help.
 //!
-//! Arguments are folders by `-C`, a command, its options, and then files. Nothing here opens a file or prints.
+//! Arguments are folders by `-C`, a command, its options, and files. Nothing here opens a file or prints.
 #![tactic(auto)]
 
 mod arguments;
@@ -11,12 +11,19 @@ mod files;
 mod help;
 pub mod laws;
 mod options;
+mod places;
 mod settings;
+mod share;
+mod table;
 mod words;
 
 pub use arguments::{Front, front_of, read_arguments};
 pub use commands::{Command, Operator, Request, Topic};
 pub use fault::{Escaped, Fault};
+pub use files::{check_output, reads_texts};
 pub use help::text_of;
-pub use options::{Form, OptionName, Options, Order, Seed};
-pub use words::seed_of;
+pub use options::{Form, Options, Order, Seed};
+pub use places::options_first;
+pub use share::Share;
+pub use table::{OptionName, has_option};
+pub use words::{command_of, seed_of, word_of};

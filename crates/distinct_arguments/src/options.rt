@@ -1,35 +1,9 @@
-//! The options of a command. `settings` changes them, and `help` has their texts.
+//! The values of a command's options. `settings` changes them, and `table` says what each option is.
 ghost use Rattle.std.specs.Prelude.{◌≤◌, ◌<◌};
 ghost use Rattle.std.specs.Option.{ForSome};
 
+use crate::share::Share;
 use estimates::Deviations;
-
-/// The options that commands have.
-#[derive(Clone, Copy, Debug, PartialEq, Eq)]
-pub enum OptionName {
-    LgK,
-    Field,
-    Separator,
-    By,
-    Sort,
-    Value,
-    Visits,
-    Groups,
-    Sums,
-    Seed,
-    SeedFile,
-    FileList,
-    Expect,
-    Progress,
-    Bounds,
-    Tsv,
-    Json,
-    Hex,
-    Output,
-    OutputDir,
-    Keys,
-    Dir,
-}
 
 /// The seed of hashes: a number, or the name of the file that has it.
 #[derive(Clone, Copy, Debug, PartialEq, Eq)]
@@ -90,6 +64,8 @@ pub struct Options<'a> {
     pub folder: Option<&'a str>,
     /// The file that has the names of the files, each ended by a NUL byte.
     pub list: Option<&'a str>,
+    /// The part of each file that is read; the whole file if `None`.
+    pub part: Option<Share>,
     /// The folder to which names of files are relative; the working directory if `None`.
     pub dir: Option<&'a str>,
     /// The number of images that are expected, from 1 to 2^32 - 1 if it was read from arguments.
@@ -97,6 +73,12 @@ pub struct Options<'a> {
     /// The standard deviations of the bounds that are printed; `None` if no bounds are.
     pub bounds: Option<Deviations>,
     pub form: Form,
+    /// Whether plain counts are printed for people: in groups of digits, and with bounds if they are estimates.
+    pub human: bool,
+    /// Whether the file of the output may be one of those that are read.
+    pub force: bool,
+    /// Whether remarks and warnings are left out.
+    pub quiet: bool,
     ghost low: { 4 ≤ lg_k },
     ghost high: { lg_k ≤ 26 },
     ghost from_one: { ForSome field (λ number. 0 < number) },

@@ -1,30 +1,49 @@
 //! What options do to the values of options.
-ghost use Rattle.std.specs.Prelude.{◌≡◌};
+ghost use Rattle.std.specs.Prelude.{◌≡◌, ◌≤◌, ◌<◌};
 ghost use Rattle.std.specs.Option.{option_map};
-ghost use Rattle.distinct_arguments.specs.Settings.{default_options, chosen_key, chosen_group, chosen_value};
-ghost use Rattle.distinct_arguments.specs.Settings.{with_flag, with_value};
-ghost use Rattle.distinct_arguments.specs.Faults.{options_of, SetsOptions};
-ghost use Rattle.distinct_arguments.specs.Words.{number_of};
+ghost use Rattle.distinct_arguments.specs.Settings.{default_lg_k, default_options, chosen_key, chosen_group, chosen_value};
+ghost use Rattle.distinct_arguments.specs.Settings.{given_or, is_file, is_given, seed_in, seed_value, wrong_value};
+ghost use Rattle.distinct_arguments.specs.Settings.{options_of, set_flag, set_number, set_text, with_flag, with_value};
+ghost use Rattle.distinct_arguments.specs.Settings.{IsOfKind};
+ghost use Rattle.distinct_arguments.specs.Faults.{ReadsAs, SetsOptions};
+ghost use Rattle.distinct_arguments.specs.Table.{kind_of};
 
-use crate::fault::{Fault, WrongWord, quoting, wrong_seed};
-use crate::options::{Form, OptionName, Options, Seed};
-use crate::words::{byte_of, deviations_of, number_of, order_of, seed_of};
-use core_laws::{DEFAULT_LG_K, MAX_LG_K, MIN_LG_K};
+use crate::commands::Command;
+use crate::fault::{Fault, WrongWord, quoting};
+use crate::options::{Form, Options, Seed};
+use crate::table::{Kind, OptionName, kind_of};
+use crate::words::{byte_of, deviations_of, number_of, order_of, share_of};
+use core_laws::DEFAULT_LG_K;
 use estimates::Deviations;
 use keys_lines::Key;
-use sketch_base::DEFAULT_UPDATE_SEED;
+use sketch_base::{DEFAULT_UPDATE_SEED, ErrorKind, compute_seed_hash};
 use std::alloc::Global;
 
 /// The default separator of fields.
 const TAB: u8 = b'\t';
+/// The default of `--lg-k` of commands that print counts: their error is then within 0.4 %.
+const COUNTING_LG_K: u8 = 16;
+
+/// The default of `--lg-k`.
+fn default_lg_k(command: Command) -> u8
+    ensures value { result ≡ default_lg_k command }
+    ensures low { 4 ≤ result }
+    ensures high { result ≤ 26 }
+{
+    match command {
+        Command::Count => COUNTING_LG_K,
+        Command::Visits => COUNTING_LG_K,
+        _ => DEFAULT_LG_K,
+    }
+}
 
 impl<'a> Options<'a> {
     /// The defaults, of a command without options.
-    pub(crate) fn new() -> Options<'a>
-        ensures { options_of result ≡ default_options }
+    pub(crate) fn new(command: Command) -> Options<'a>
+        ensures { options_of result ≡ default_options command }
     {
         Options {
-            lg_k: DEFAULT_LG_K,
+            lg_k: default_lg_k(command),
             field: None,
             separator: None,
             by: None,
@@ -40,10 +59,14 @@ impl<'a> Options<'a> {
             output: None,
             folder: None,
             list: None,
+            part: None,
             dir: None,
             expected: None,
             bounds: None,
             form: Form::Plain,
+            human: false,
+            force: false,
+            quiet: false,
         }
     }
 
@@ -78,43 +101,176 @@ impl<'a> Options<'a> {
     }
 }
 
-/// The options after an option without a value; `None` if it needs one.
-pub(crate) fn with_flag<'a>(options: Options<'a>, option: OptionName) -> Option<Options<'a>>
-    ensures { option_map options_of result ≡ with_flag (options_of options.entry) option }
+/// Whether an option is given. Of `--lg-k` and `--seed`, whose defaults aren't marked, it is false: no rule names them.
+pub(crate) fn is_given(options: &Options<'_>, option: OptionName) -> bool
+    ensures { result ≡ is_given (options_of options.now) option }
+{
+    match option {
+        OptionName::Field => options.field.is_some(),
+        OptionName::Separator => options.separator.is_some(),
+        OptionName::Value => options.value.is_some(),
+        OptionName::Visits => options.visits,
+        OptionName::Keys => options.keys,
+        OptionName::Sums => options.sums,
+        OptionName::Hex => options.hex,
+        OptionName::FileList => options.list.is_some(),
+        OptionName::Part => options.part.is_some(),
+        OptionName::Dir => options.dir.is_some(),
+        OptionName::LgK => false,
+        OptionName::Seed => false,
+        OptionName::SeedFile => is_file(options.seed),
+        OptionName::By => options.by.is_some(),
+        OptionName::Groups => options.groups,
+        OptionName::Expect => options.expected.is_some(),
+        OptionName::Sort => options.sort.is_some(),
+        OptionName::Progress => options.progress,
+        OptionName::Bounds => options.bounds.is_some(),
+        OptionName::Tsv => options.form == Form::Tsv,
+        OptionName::Json => options.form == Form::Json,
+        OptionName::Human => options.human,
+        OptionName::OutputDir => options.folder.is_some(),
+        OptionName::Output => options.output.is_some(),
+        OptionName::Force => options.force,
+        OptionName::Quiet => options.quiet,
+    }
+}
+
+/// Whether a seed is in a file.
+fn is_file(seed: Seed<'_>) -> bool
+    ensures { result ≡ is_file (seed_value seed.entry) }
+{
+    match seed {
+        Seed::Number(_) => false,
+        Seed::File(_) => true,
+    }
+}
+
+/// The options after a flag.
+fn set_flag<'a>(options: Options<'a>, option: OptionName) -> Options<'a>
+    ensures { options_of result ≡ set_flag (options_of options.entry) option }
 {
     let mut changed = options;
     match option {
         OptionName::Progress => changed.progress = true,
         OptionName::Tsv => changed.form = Form::Tsv,
         OptionName::Json => changed.form = Form::Json,
+        OptionName::Human => changed.human = true,
         OptionName::Hex => changed.hex = true,
         OptionName::Keys => changed.keys = true,
         OptionName::Visits => changed.visits = true,
         OptionName::Groups => changed.groups = true,
         OptionName::Sums => changed.sums = true,
-        OptionName::Bounds => changed.bounds = Some(Deviations::Two),
-        _ => return None,
+        OptionName::Force => changed.force = true,
+        OptionName::Quiet => changed.quiet = true,
+        _ => {}
     }
-    Some(changed)
+    changed
 }
 
-/// The number that a word spells, if it is from 1 to 2^32 - 1.
-fn number_from_one(word: &str) -> Option<u32>
-    ensures { result ≡ number_of 1 4294967295 word.now }
+/// A number as a `lg_k`.
+fn as_size(number: u64) -> u8
+    requires { (4 ≤ number) × (number ≤ 26) }
+    ensures value { result ≡ number }
+    ensures low { 4 ≤ result }
+    ensures high { result ≤ 26 }
 {
-    match number_of(word, 1, u32::MAX as u64) {
-        Some(number) => Some(number as u32),
-        None => None,
+    number as u8
+}
+
+/// A number from 1 as one of 32 bits.
+fn as_ordinal(number: u64) -> u32
+    requires { (1 ≤ number) × (number ≤ 4294967295) }
+    ensures value { result ≡ number }
+    ensures from_one { 0 < result }
+{
+    number as u32
+}
+
+/// The options after an option whose value is a number in the range of its row, which replaces an earlier one.
+fn set_number<'a>(options: Options<'a>, option: OptionName, number: u64) -> Options<'a>
+    requires fits { IsOfKind (kind_of option) number }
+    ensures { options_of result ≡ set_number (options_of options.entry) option number }
+{
+    let mut changed = options;
+    match option {
+        OptionName::LgK => {
+            changed.lg_k = as_size(number);
+            changed
+        }
+        OptionName::Field => {
+            changed.field = Some(as_ordinal(number));
+            changed
+        }
+        OptionName::By => {
+            changed.by = Some(as_ordinal(number));
+            changed
+        }
+        OptionName::Value => {
+            changed.value = Some(as_ordinal(number));
+            changed
+        }
+        OptionName::Expect => {
+            changed.expected = Some(number);
+            changed
+        }
+        _ => changed,
     }
 }
 
-/// The `lg_k` that a word spells, if it is from 4 to 26.
-fn lg_k_of(word: &str) -> Option<u8>
-    ensures { result ≡ number_of 4 26 word.now }
+/// The options after an option whose value may be any text, which replaces an earlier one.
+fn set_text<'a>(options: Options<'a>, option: OptionName, value: &'a str) -> Options<'a>
+    ensures { options_of result ≡ set_text (options_of options.entry) option value.now }
 {
-    match number_of(word, MIN_LG_K as u64, MAX_LG_K as u64) {
-        Some(lg_k) => Some(lg_k as u8),
-        None => None,
+    let mut changed = options;
+    match option {
+        OptionName::SeedFile => changed.seed = Seed::File(value),
+        OptionName::FileList => changed.list = Some(value),
+        OptionName::Output => changed.output = Some(value),
+        OptionName::OutputDir => changed.folder = Some(value),
+        OptionName::Dir => changed.dir = Some(value),
+        _ => {}
+    }
+    changed
+}
+
+/// The options after an option without a value; `None` if it needs one.
+pub(crate) fn with_flag<'a>(options: Options<'a>, option: OptionName) -> Option<Options<'a>>
+    ensures { option_map options_of result ≡ with_flag (options_of options.entry) option }
+{
+    match kind_of(option) {
+        Kind::Flag => Some(set_flag(options, option)),
+        Kind::Deviations => {
+            let mut changed = options;
+            changed.bounds = Some(Deviations::Two);
+            Some(changed)
+        }
+        _ => None,
+    }
+}
+
+/// The value of an option, read from a word, or the fault if it takes no such word.
+fn given<X: Drop>(
+    alloc: Global,
+    option: OptionName,
+    word: &str,
+    read: Option<X>,
+) -> Result<X, Fault>
+    ensures { ReadsAs result (given_or (wrong_value option word.now) read) }
+{
+    match read {
+        Some(value) => Ok(value),
+        None => Err(quoting(alloc, WrongWord::WrongValue(option), word)),
+    }
+}
+
+/// The seed that a word spells; its seed hash isn't 0.
+fn seed_in(alloc: Global, word: &str) -> Result<u64, Fault>
+    ensures { ReadsAs result (seed_in word.now) }
+{
+    let number = given(alloc, OptionName::Seed, word, number_of(word, 0, u64::MAX))?;
+    match compute_seed_hash(number, ErrorKind::InvalidArgument) {
+        Ok(_) => Ok(number),
+        Err(_) => Err(Fault::ZeroSeed(number)),
     }
 }
 
@@ -130,32 +286,35 @@ pub(crate) fn with_value<'a>(
     ensures { SetsOptions result (with_value (options_of options.entry) option name.now value.now) }
 {
     let mut changed = options;
-    match option {
-        OptionName::LgK => changed.lg_k = lg_k_of(value).ok_or(Fault::WrongSize)?,
-        OptionName::Field => changed.field = Some(number_from_one(value).ok_or(Fault::WrongField)?),
-        OptionName::By => changed.by = Some(number_from_one(value).ok_or(Fault::WrongGroup)?),
-        OptionName::Sort => changed.sort = Some(order_of(value).ok_or(Fault::WrongOrder)?),
-        OptionName::Value => changed.value = Some(number_from_one(value).ok_or(Fault::WrongValue)?),
-        OptionName::Separator => {
-            changed.separator = Some(byte_of(value).ok_or(Fault::WrongSeparator)?);
+    match kind_of(option) {
+        Kind::Flag => Err(quoting(alloc, WrongWord::UnneededValue, name)),
+        Kind::Number(least, greatest) => {
+            let number = given(alloc, option, value, number_of(value, least, greatest))?;
+            Ok(set_number(options, option, number))
         }
-        OptionName::Seed => match seed_of(value) {
-            Some(seed) => changed.seed = Seed::Number(seed),
-            None => return Err(wrong_seed(value)),
+        Kind::Byte => {
+            changed.separator = Some(given(alloc, option, value, byte_of(value))?);
+            Ok(changed)
+        }
+        Kind::Seed => match seed_in(alloc, value) {
+            Ok(seed) => {
+                changed.seed = Seed::Number(seed);
+                Ok(changed)
+            }
+            Err(fault) => Err(fault),
         },
-        OptionName::Expect => {
-            let count = number_from_one(value).ok_or(Fault::WrongCount)?;
-            changed.expected = Some(count as u64);
+        Kind::Deviations => {
+            changed.bounds = Some(given(alloc, option, value, deviations_of(value))?);
+            Ok(changed)
         }
-        OptionName::Bounds => {
-            changed.bounds = Some(deviations_of(value).ok_or(Fault::WrongDeviations)?);
+        Kind::Share => {
+            changed.part = Some(given(alloc, option, value, share_of(value))?);
+            Ok(changed)
         }
-        OptionName::SeedFile => changed.seed = Seed::File(value),
-        OptionName::FileList => changed.list = Some(value),
-        OptionName::Output => changed.output = Some(value),
-        OptionName::OutputDir => changed.folder = Some(value),
-        OptionName::Dir => changed.dir = Some(value),
-        _ => return Err(quoting(alloc, WrongWord::UnneededValue, name)),
+        Kind::Order => {
+            changed.sort = Some(given(alloc, option, value, order_of(value))?);
+            Ok(changed)
+        }
+        Kind::Text => Ok(set_text(options, option, value)),
     }
-    Ok(changed)
 }

@@ -1,17 +1,20 @@
 //! Single words of the arguments.
 ghost use Rattle.std.specs.Prelude.{◌≡◌, ◌==◌, slice_index, Some};
 ghost use Rattle.std.specs.Option.{option_map};
-ghost use Rattle.distinct_arguments.specs.Words.{command_of, option_of, has_option, is_help, is_version};
-ghost use Rattle.distinct_arguments.specs.Words.{is_dir, is_option};
-ghost use Rattle.distinct_arguments.specs.Words.{split_option, number_of, byte_of, seed_of, deviations_of, order_of};
+ghost use Rattle.distinct_arguments.specs.Commands.{command_of, word_of};
+ghost use Rattle.distinct_arguments.specs.Words.{is_help, is_version, is_dir, is_option};
+ghost use Rattle.distinct_arguments.specs.Words.{setting_with, short_parts, split_setting, split_option, number_of, byte_of, seed_of, deviations_of, order_of};
+ghost use Rattle.distinct_arguments.specs.Shares.{numbers_of, share_of};
 
 use crate::commands::{Command, Operator};
-use crate::options::{OptionName, Order};
+use crate::options::Order;
+use crate::share::Share;
+use crate::table::takes_attached;
 use estimates::Deviations;
 use sketch_base::{ErrorKind, compute_seed_hash};
 
 /// The command that a word names.
-pub(crate) fn command_of(word: &str) -> Option<Command>
+pub fn command_of(word: &str) -> Option<Command>
     ensures { result ≡ command_of word.now }
 {
     match word {
@@ -25,6 +28,24 @@ pub(crate) fn command_of(word: &str) -> Option<Command>
         "visits" => Some(Command::Visits),
         "sum" => Some(Command::Sum),
         _ => None,
+    }
+}
+
+/// The word that names a command.
+pub fn word_of(command: Command) -> &'static str
+    ensures word { result.now ≡ word_of command }
+    ensures named { command_of result.now ≡ Some command }
+{
+    match command {
+        Command::Count => "count",
+        Command::Sketch => "sketch",
+        Command::Combine(Operator::Union) => "union",
+        Command::Combine(Operator::Meet) => "meet",
+        Command::Combine(Operator::Minus) => "minus",
+        Command::Show => "show",
+        Command::Eval => "eval",
+        Command::Visits => "visits",
+        Command::Sum => "sum",
     }
 }
 
@@ -59,119 +80,38 @@ pub(crate) fn is_option(word: &str) -> bool
     }
 }
 
-/// The name of an option in a word, and its value: the parts before and after the first `=`.
-pub(crate) fn split_option(word: &str) -> (&str, Option<&str>)
-    ensures name { result.0.now ≡ (split_option word.now).name }
-    ensures value { option_map (λ value. value.now) result.1 ≡ (split_option word.now).value }
+/// The first two bytes of a word and the others, if the first is a hyphen, the second ASCII, and there are others.
+fn short_parts(word: &str) -> Option<(&str, &str)>
+    ensures { option_map (λ parts. setting_with parts.0.now parts.1.now) result ≡ short_parts word.now }
 {
-    match word.split_once('=') {
-        Some((name, value)) => (name, Some(value)),
-        None => (word, None),
-    }
-}
-
-/// The option of a name, such as `--lg-k`.
-pub(crate) fn option_of(name: &str) -> Option<OptionName>
-    ensures { result ≡ option_of name.now }
-{
-    match name {
-        "--lg-k" => Some(OptionName::LgK),
-        "--field" => Some(OptionName::Field),
-        "--separator" => Some(OptionName::Separator),
-        "--by" => Some(OptionName::By),
-        "--sort" => Some(OptionName::Sort),
-        "--value" => Some(OptionName::Value),
-        "--visits" => Some(OptionName::Visits),
-        "--groups" => Some(OptionName::Groups),
-        "--sums" => Some(OptionName::Sums),
-        "--seed" => Some(OptionName::Seed),
-        "--seed-file" => Some(OptionName::SeedFile),
-        "--files0-from" => Some(OptionName::FileList),
-        "--expect" => Some(OptionName::Expect),
-        "--progress" => Some(OptionName::Progress),
-        "--bounds" => Some(OptionName::Bounds),
-        "--tsv" => Some(OptionName::Tsv),
-        "--json" => Some(OptionName::Json),
-        "--hex" => Some(OptionName::Hex),
-        "--output" => Some(OptionName::Output),
-        "--output-dir" => Some(OptionName::OutputDir),
-        "--keys" => Some(OptionName::Keys),
-        "-C" => Some(OptionName::Dir),
+    match word.as_bytes() {
+        [first, second, _, ..] if *first == b'-' && *second < 128 => Some(word.split_at(2)),
         _ => None,
     }
 }
 
-/// The name of an option, such as `--lg-k`.
-pub(crate) fn name_of(option: OptionName) -> &'static str
-    ensures { option_of result.now ≡ Some option }
+/// The name of an option in a word, and its value: a short name and the value that is attached to it, or the parts
+/// before and after the first `=`.
+pub(crate) fn split_option(word: &str) -> (&str, Option<&str>)
+    ensures name { result.0.now ≡ (split_option word.now).name }
+    ensures value { option_map (λ value. value.now) result.1 ≡ (split_option word.now).value }
 {
-    match option {
-        OptionName::LgK => "--lg-k",
-        OptionName::Field => "--field",
-        OptionName::Separator => "--separator",
-        OptionName::By => "--by",
-        OptionName::Sort => "--sort",
-        OptionName::Value => "--value",
-        OptionName::Visits => "--visits",
-        OptionName::Groups => "--groups",
-        OptionName::Sums => "--sums",
-        OptionName::Seed => "--seed",
-        OptionName::SeedFile => "--seed-file",
-        OptionName::FileList => "--files0-from",
-        OptionName::Expect => "--expect",
-        OptionName::Progress => "--progress",
-        OptionName::Bounds => "--bounds",
-        OptionName::Tsv => "--tsv",
-        OptionName::Json => "--json",
-        OptionName::Hex => "--hex",
-        OptionName::Output => "--output",
-        OptionName::OutputDir => "--output-dir",
-        OptionName::Keys => "--keys",
-        OptionName::Dir => "-C",
+    if let Some((name, value)) = short_parts(word) {
+        if takes_attached(name) {
+            return (name, Some(value));
+        }
     }
+    split_setting(word)
 }
 
-/// Whether a command has an option.
-pub(crate) fn has_option(command: Command, option: OptionName) -> bool
-    ensures { result ≡ has_option command option }
+/// The parts of a word before and after the first `=`.
+fn split_setting(word: &str) -> (&str, Option<&str>)
+    ensures name { result.0.now ≡ (split_setting word.now).name }
+    ensures value { option_map (λ value. value.now) result.1 ≡ (split_setting word.now).value }
 {
-    let makes_sketch = command == Command::Count || command == Command::Sketch;
-    let is_sum = command == Command::Sum;
-    let reads_lines = makes_sketch || is_sum || command == Command::Visits;
-    let shows_counts = command == Command::Count
-        || command == Command::Show
-        || command == Command::Visits;
-    let is_eval = command == Command::Eval;
-    match option {
-        OptionName::Seed => true,
-        OptionName::SeedFile => true,
-        OptionName::Dir => true,
-        OptionName::LgK => {
-            reads_lines || is_eval || command == Command::Combine(Operator::Union)
-        }
-        OptionName::Field => reads_lines || is_eval,
-        OptionName::Separator => reads_lines || is_eval,
-        OptionName::By => makes_sketch,
-        OptionName::Sort => command == Command::Count,
-        OptionName::Value => is_sum || command == Command::Sketch,
-        OptionName::Visits => command == Command::Sketch,
-        OptionName::Groups => command == Command::Combine(Operator::Union),
-        OptionName::Sums => {
-            is_eval || command == Command::Visits || command == Command::Combine(Operator::Union)
-        }
-        OptionName::Progress => makes_sketch,
-        OptionName::Keys => is_eval,
-        OptionName::FileList => !is_eval && command != Command::Combine(Operator::Minus),
-        OptionName::Expect => {
-            command == Command::Combine(Operator::Union)
-                || command == Command::Combine(Operator::Meet)
-        }
-        OptionName::Bounds => shows_counts || is_eval,
-        OptionName::Tsv => shows_counts || is_eval || is_sum,
-        OptionName::Json => shows_counts || is_eval || is_sum,
-        OptionName::Hex => command != Command::Count && !is_sum,
-        OptionName::Output => !shows_counts && !is_sum,
-        OptionName::OutputDir => command == Command::Sketch,
+    match word.split_once('=') {
+        Some((name, value)) => (name, Some(value)),
+        None => (word, None),
     }
 }
 
@@ -246,4 +186,17 @@ pub(crate) fn order_of(word: &str) -> Option<Order>
         "estimate" => Some(Order::Estimate),
         _ => None,
     }
+}
+
+/// The part that a word spells as its number, a slash and the number of all parts, such as `1/8`.
+pub(crate) fn share_of(word: &str) -> Option<Share>
+    ensures { option_map numbers_of result ≡ share_of word.now }
+{
+    let (index, parts) = word.split_once('/')?;
+    let parts = number_of(parts, 1, u32::MAX as u64)?;
+    let index = number_of(index, 1, parts)?;
+    Some(Share {
+        index: index as u32,
+        parts: parts as u32,
+    })
 }

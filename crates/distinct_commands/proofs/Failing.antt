@@ -12,7 +12,7 @@ use Rattle.distinct_arguments.specs.declared.commands.Operator.TheVariants.{Unio
 use Rattle.distinct_inputs.specs.Failures.{images_in, unites_sums, IsOfImages, IsOfEitherUnion, IsOfCombining}
 use Rattle.distinct_commands.specs.Failing.{OrNoFiles}
 use Rattle.distinct_messages.specs.declared.failure.Failure.{Failure}
-use Rattle.distinct_messages.specs.declared.failure.Failure.TheVariants.{NotText, Arguments, NoFiles, NotTwo, NoExpression, NoDir, NoName, NoNul, NoSeed, Terminal, WrongCount, NotOneEach, Memory, Unreadable, NoSketch, NoSums, NoHex, NoTab, NoLine, PastGreatest, PastUnion, PastResult, NotANumber, NotWritten}
+use Rattle.distinct_messages.specs.declared.failure.Failure.TheVariants.{NotText, Arguments, NoFiles, NotTwo, NoExpression, NoDir, NoName, NoNul, NoSeed, Terminal, WrongCount, NotOneEach, Memory, Unreadable, NoSketch, NoSums, NoHex, NoTab, NoLine, PastGreatest, PastUnion, PastResult, NotANumber, LongName, NotWritten}
 
 -- images that an operator reads
 images_combining : (operator : Operator) (options : OptionValues) (seed count : ℕ) (texts : Option (List (List ℕ))) (f : Failure) →
@@ -40,6 +40,7 @@ images_combining operator options seed count texts (PastGreatest name line) fail
 images_combining operator options seed count texts (PastUnion name line) failed = absurd failed
 images_combining operator options seed count texts (PastResult text) failed = absurd failed
 images_combining operator options seed count texts (NotANumber name line) failed = absurd failed
+images_combining operator options seed count texts (LongName path length) failed = absurd failed
 images_combining operator options seed count texts (NotWritten name error) failed = absurd failed
 
 pub not_combined : (operator : Operator) (options : OptionValues) (seed count : ℕ) (texts : Option (List (List ℕ))) (f : Failure) → unites_sums operator options ≡ false →
@@ -71,6 +72,7 @@ union_combining options seed count texts (PastGreatest name line) failed = absur
 union_combining options seed count texts (PastUnion name line) failed = failed
 union_combining options seed count texts (PastResult text) failed = absurd failed
 union_combining options seed count texts (NotANumber name line) failed = absurd failed
+union_combining options seed count texts (LongName path length) failed = absurd failed
 union_combining options seed count texts (NotWritten name error) failed = absurd failed
 
 pub not_united : {V : Type 0} (r : Result V Failure) (operator : Operator) (options : OptionValues) (seed count : ℕ) (texts : Option (List (List ℕ))) → operator ≡ Union →
@@ -103,6 +105,7 @@ named IsNameError IsOther (PastGreatest name line) never failed = failed
 named IsNameError IsOther (PastUnion name line) never failed = failed
 named IsNameError IsOther (PastResult text) never failed = failed
 named IsNameError IsOther (NotANumber name line) never failed = failed
+named IsNameError IsOther (LongName path length) never failed = failed
 named IsNameError IsOther (NotWritten name error) never failed = failed
 
 -- the first flaw of a line

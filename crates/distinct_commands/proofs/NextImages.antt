@@ -14,7 +14,7 @@ use Rattle.distinct_commands.specs.Answers.{AreShownByName, AreShown, IsExpected
 use Rattle.distinct_messages.specs.Failures.{display_name}
 use Rattle.distinct_inputs.specs.Failures.{AreCounted, IsOfImages}
 use Rattle.distinct_messages.specs.declared.failure.Failure.{Failure}
-use Rattle.distinct_messages.specs.declared.failure.Failure.TheVariants.{NotText, Arguments, NoFiles, NotTwo, NoExpression, NoDir, NoName, NoNul, NoSeed, Terminal, WrongCount, NotOneEach, Memory, Unreadable, NoSketch, NoSums, NoHex, NoTab, NoLine, PastGreatest, PastUnion, PastResult, NotANumber, NotWritten}
+use Rattle.distinct_messages.specs.declared.failure.Failure.TheVariants.{NotText, Arguments, NoFiles, NotTwo, NoExpression, NoDir, NoName, NoNul, NoSeed, Terminal, WrongCount, NotOneEach, Memory, Unreadable, NoSketch, NoSums, NoHex, NoTab, NoLine, PastGreatest, PastUnion, PastResult, NotANumber, LongName, NotWritten}
 use Rattle.distinct_inputs.specs.declared.images.Images.{Images}
 use Rattle.distinct_inputs.specs.Images.{only_image, images_of, parts_left, remaining_images, open_text, HasNoSketch, IsNoSketch, ReadsFirst, ReadsNext}
 use Rattle.distinct_commands.specs.Texts.{shown_text}
@@ -250,4 +250,5 @@ fails_before sums hex seed old now P (PastGreatest name line) so_far failed = ab
 fails_before sums hex seed old now P (PastUnion name line) so_far failed = absurd failed
 fails_before sums hex seed old now P (PastResult text) so_far failed = absurd failed
 fails_before sums hex seed old now P (NotANumber name line) so_far failed = absurd failed
+fails_before sums hex seed old now P (LongName path length) so_far failed = absurd failed
 fails_before sums hex seed old now P (NotWritten name error) so_far failed = absurd failed

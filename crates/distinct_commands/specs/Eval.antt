@@ -1,6 +1,6 @@
 -- What `eval` prints or writes.
 use Rattle.std.specs.Prelude.{ℕ, ◌≡◌, ◌++◌, ⊤, Bool, true, false, List, [], ◌∷◌, length, map, Option, Some, None}
-use Rattle.std.specs.Prelude.{is_some, if◌then◌else◌}
+use Rattle.std.specs.Prelude.{is_some, nat_lt, ◌&&◌, if◌then◌else◌}
 use Rattle.sketch_base.specs.Seed.{seed_hash}
 use Rattle.core_compact.specs.CompactState.{Compact, ordered_sketch}
 use Rattle.core_laws.specs.Entries.{hash_key}
@@ -51,6 +51,11 @@ AreOperands false options seed texts sketches = AreRead seed (images_of false op
 abbrev pub AreWholeSets : (keys : Bool) → OptionValues → (seed : ℕ) → (texts : List (List ℕ)) → List (Compact ℕ) → (sets : List (List ℕ)) → Type 0
 AreWholeSets true options seed texts sketches sets = sets ≡ map (λ text. key_set (chosen_hashing options seed) (lines_of text)) texts
 AreWholeSets false options seed texts sketches sets = AreSamples hash_key (values_of sketches) sets
+
+-- whether a result has a lower theta than each of the sketches that it is made of
+abbrev pub is_cut : {X : Type 0} → (result : Compact X) → (sketches : List (Compact X)) → Bool
+is_cut result [] = true
+is_cut result (s ∷ sketches) = nat_lt result.theta s.theta && is_cut result sketches
 
 -- what is printed of a sketch, as the result of an expression, or its image if it goes to a file
 abbrev pub evaluated_text : OptionValues → (expression : List ℕ) → Compact ℕ → List ℕ

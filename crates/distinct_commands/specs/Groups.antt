@@ -4,7 +4,7 @@ use Rattle.std.specs.Str.Lossy.{utf8_lossy}
 use Rattle.core_compact.specs.CompactState.{Compact}
 use Rattle.theta_sketches.specs.Image.{written}
 use Rattle.keys_reports.specs.declared.report.Report.{Report}
-use Rattle.keys_reports.specs.Forms.{count_line, json_line, tsv_row}
+use Rattle.keys_reports.specs.Forms.{json_line, tsv_row}
 use Rattle.keys_lines.specs.Lines.{lines_of_all}
 use Rattle.keys_lines.specs.declared.key.Key.{Key}
 use Rattle.keys_groups.specs.Groups.{AreGroups, group_sketch}
@@ -17,22 +17,22 @@ use Rattle.distinct_arguments.specs.declared.options.Order.TheVariants.{Name, Es
 use Rattle.distinct_arguments.specs.declared.options.Form.{Form}
 use Rattle.distinct_arguments.specs.declared.options.Form.TheVariants.{Plain, Tsv, Json}
 use Rattle.distinct_inputs.specs.Failures.{chosen_hashing}
-use Rattle.distinct_commands.specs.Texts.{report_by, head_of}
+use Rattle.distinct_commands.specs.Texts.{counted_line, report_by, head_of}
 
 -- how options group lines by a key
 abbrev pub grouping_of : OptionValues → (seed : ℕ) → (by : Key) → Grouping
 grouping_of options seed by = record { by = by; hashing = chosen_hashing options seed; lg_k = options.lg_k }
 
--- what is printed of a group: its name as it is, a tab and the line of its count; in a table and in JSON its name in UTF-8,
--- with U+FFFD for what is not
-abbrev pub grouped_in : Form → (with_bounds : Bool) → (name : List ℕ) → Report → List ℕ
-grouped_in Plain with_bounds name report = name ++ codes "\t" ++ count_line with_bounds report
-grouped_in Tsv with_bounds name report = tsv_row (Some (utf8_lossy name)) report
-grouped_in Json with_bounds name report = json_line (Some (utf8_lossy name)) report
+-- what is printed of a group: its name as it is, a tab and the line of its count; in JSON its name in UTF-8, with U+FFFD
+-- for what is not
+abbrev pub grouped_in : Form → (line : List ℕ) → (name : List ℕ) → Report → List ℕ
+grouped_in Plain line name report = name ++ codes "\t" ++ line
+grouped_in Tsv line name report = tsv_row (Some name) report
+grouped_in Json line name report = json_line (Some (utf8_lossy name)) report
 
 -- what is printed of the group of a name, which has this sketch
 abbrev pub group_text : OptionValues → (name : List ℕ) → Compact ℕ → List ℕ
-group_text options name s = grouped_in options.form (is_some options.bounds) name (report_by options s)
+group_text options name s = grouped_in options.form (counted_line options (report_by options s)) name (report_by options s)
 
 -- the line of a group: its count, or its image as a line has it, after its name as it is and a tab
 abbrev pub group_line : (images : Bool) → OptionValues → (name : List ℕ) → Compact ℕ → List ℕ

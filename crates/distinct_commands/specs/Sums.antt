@@ -1,5 +1,5 @@
 -- The sums of lines: their images, and what `sum` prints.
-use Rattle.std.specs.Prelude.{ℕ, ◌≡◌, ◌++◌, List, Option, Some, None}
+use Rattle.std.specs.Prelude.{ℕ, ◌≡◌, ◌++◌, List, min, Option, Some, None}
 use Rattle.sketch_base.specs.Seed.{seed_hash}
 use Rattle.core_compact.specs.CompactState.{Compact}
 use Rattle.core_slots.specs.declared.entry.TupleEntry.{TupleEntry}
@@ -7,11 +7,13 @@ use Rattle.keys_lines.specs.Lines.{lines_of_all}
 use Rattle.keys_lines.specs.declared.key.Key.{Key}
 use Rattle.keys_sums.specs.Amounts.{added_by, AreNumbers}
 use Rattle.keys_sums.specs.Images.{written_sums, ReadsSums}
-use Rattle.keys_sums.specs.Sums.{sketch_of_sums}
+use Rattle.keys_sums.specs.Sums.{sketch_of_sums, total_added, GREATEST_TOTAL}
 use Rattle.keys_sums.specs.declared.addends.Amount.{Amount}
 use Rattle.keys_sums.specs.declared.addends.Amount.TheVariants.{Number}
 use Rattle.totals.specs.Forms.{total_json_line, total_line, total_tsv_head, total_tsv_row}
-use Rattle.totals.specs.Totals.{total_of}
+use Rattle.totals.specs.Forms.{lines_total_json_line, lines_total_line, lines_total_tsv_head, lines_total_tsv_row}
+use Rattle.totals.specs.Totals.{lines_total, total_of}
+use Rattle.totals.specs.declared.total.LinesTotal.{LinesTotal}
 use Rattle.totals.specs.declared.total.Total.{Total}
 use Rattle.distinct_arguments.specs.Settings.{OptionValues}
 use Rattle.distinct_arguments.specs.declared.options.Form.{Form}
@@ -40,12 +42,24 @@ totalled_in Plain total = total_line total
 totalled_in Tsv total = total_tsv_head ++ total_tsv_row total
 totalled_in Json total = total_json_line total
 
--- what `sum` prints of a sketch of sums
+-- what `eval` prints of a sketch of sums
 abbrev pub total_text : Form → Compact (TupleEntry ℕ) → List ℕ
 total_text form s = totalled_in form (total_of s)
 
--- what `sum` prints of texts, by the part of a line that has its number: each line of all texts has one
+-- what is printed of the total of lines
+abbrev pub lines_totalled_in : Form → LinesTotal → List ℕ
+lines_totalled_in Plain total = lines_total_line total
+lines_totalled_in Tsv total = lines_total_tsv_head ++ lines_total_tsv_row total
+lines_totalled_in Json total = lines_total_json_line total
+
+-- the exact total of what the lines of texts add, up to the greatest that is counted
+abbrev pub exact_total : Amount → (texts : List (List ℕ)) → ℕ
+exact_total amount texts = min (total_added (added_by amount) (lines_of_all texts)) GREATEST_TOTAL
+
+-- what `sum` prints of texts, by the part of a line that has its number: each line of all texts has one, and the total
+-- is theirs, whatever the sketch retains
 abbrev pub IsTotalText : (value : Option Key) → OptionValues → (seed : ℕ) → (texts : List (List ℕ)) → List ℕ → Type 0
 IsTotalText None options seed texts out = ⊥
 IsTotalText (Some field) options seed texts out =
-    AreNumbers (Number field) (lines_of_all texts) × (out ≡ total_text options.form (sums_of options (Number field) seed texts))
+    AreNumbers (Number field) (lines_of_all texts)
+    × (out ≡ lines_totalled_in options.form (lines_total (sums_of options (Number field) seed texts) (exact_total (Number field) texts)))

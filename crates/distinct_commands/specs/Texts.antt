@@ -1,11 +1,12 @@
 -- What `count` and `show` print of sketches, by the options.
-use Rattle.std.specs.Prelude.{ℕ, ◌++◌, Bool, true, false, List, [], None, Some, unwrap_or, is_some}
+use Rattle.std.specs.Prelude.{ℕ, ◌++◌, true, false, List, [], None, Some, unwrap_or, is_some, if◌then◌else◌}
 use Rattle.core_compact.specs.CompactState.{Compact}
 use Rattle.estimates.specs.Bounds.{deviation_count}
 use Rattle.estimates.specs.declared.bounds.Deviations.{Deviations}
 use Rattle.estimates.specs.declared.bounds.Deviations.TheVariants.{Two}
 use Rattle.keys_reports.specs.declared.report.Report.{Report}
 use Rattle.keys_reports.specs.Reports.{report_of}
+use Rattle.keys_reports.specs.Human.{human_line}
 use Rattle.keys_reports.specs.Forms.{count_line, json_line, shown_line, tsv_head, tsv_row}
 use Rattle.distinct_arguments.specs.Settings.{OptionValues}
 use Rattle.distinct_arguments.specs.declared.options.Form.{Form}
@@ -19,15 +20,19 @@ chosen_deviations options = unwrap_or options.bounds Two
 abbrev pub report_by : OptionValues → Compact ℕ → Report
 report_by options s = report_of (deviation_count (chosen_deviations options)) s
 
--- what `count` prints of a report
-abbrev pub counted_in : Form → (with_bounds : Bool) → Report → List ℕ
-counted_in Plain with_bounds report = count_line with_bounds report
-counted_in Tsv with_bounds report = tsv_head false ++ tsv_row None report
-counted_in Json with_bounds report = json_line None report
+-- the line of a count: for people, or of bare numbers, with bounds if they are chosen
+abbrev pub counted_line : OptionValues → Report → List ℕ
+counted_line options report = if options.human then human_line report else count_line (is_some options.bounds) report
+
+-- what `count` prints of a report, whose line in plain text is this one
+abbrev pub counted_in : Form → (line : List ℕ) → Report → List ℕ
+counted_in Plain line report = line
+counted_in Tsv line report = tsv_head false ++ tsv_row None report
+counted_in Json line report = json_line None report
 
 -- what `count` prints of a sketch
 abbrev pub count_text : OptionValues → Compact ℕ → List ℕ
-count_text options s = counted_in options.form (is_some options.bounds) (report_by options s)
+count_text options s = counted_in options.form (counted_line options (report_by options s)) (report_by options s)
 
 -- what `show` prints before all sketches
 abbrev pub head_of : Form → List ℕ

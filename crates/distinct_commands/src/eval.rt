@@ -11,7 +11,7 @@ ghost use Rattle.expression_evaluation.specs.Running.{values_of};
 ghost use Rattle.distinct_arguments.specs.Faults.{options_of};
 ghost use Rattle.distinct_inputs.specs.Lists.{names_of};
 ghost use Rattle.distinct_commands.specs.Eval.{sketch_of_text, SketchesNext, AreSketchesOfTexts, AreOperands};
-ghost use Rattle.distinct_commands.specs.Eval.{IsEvaluated, IsEvaluatedBy, evaluated_text};
+ghost use Rattle.distinct_commands.specs.Eval.{is_cut, IsEvaluated, IsEvaluatedBy, evaluated_text};
 ghost use Rattle.distinct_commands.specs.Failing.{IsOfNames, IsOfThetas, IsOfEvaluation};
 ghost use Rattle.distinct_commands.specs.Operands.{IsRead};
 ghost use Rattle.distinct_inputs.specs.Seeds.{AreSeeded};
@@ -26,7 +26,7 @@ use crate::job::Job;
 use crate::show::{head_of, shown_text};
 use distinct_arguments::Options;
 use distinct_inputs::{Images, Inputs};
-use distinct_messages::{Console, Failure, out_of_memory};
+use distinct_messages::{Coarser, Console, Failure, Remark, out_of_memory};
 use expression_evaluation::evaluate;
 use keys_lines::Hashing;
 use keys_sketches::{BLOCK, ReadError, Sources, TextReader, sketch_lines};
@@ -131,6 +131,36 @@ fn put_result(
     Ok(shown)
 }
 
+/// Whether a result has a lower theta than each of the sketches that it is made of: a union in it dropped hashes.
+fn is_cut(evaluated: &CompactThetaSketch, sketches: &[CompactThetaSketch]) -> bool
+    ensures { result ≡ is_cut evaluated.now sketches.now }
+{
+    let theta = evaluated.theta64();
+    let mut rest = sketches;
+    while let Some((sketch, others)) = rest.split_first() {
+        if sketch.theta64() <= theta {
+            return false;
+        }
+        rest = others;
+    }
+    true
+}
+
+/// Remarks that an image retains more hashes than a union keeps, if one does, and a union in the result of an
+/// expression over these sketches dropped hashes.
+fn remark_cut<C: Console>(
+    coarser: Option<Coarser<'_>>,
+    evaluated: &CompactThetaSketch,
+    sketches: &[CompactThetaSketch],
+    console: &mut C,
+) {
+    if let Some(coarser) = coarser {
+        if is_cut(evaluated, sketches) {
+            console.remark(Remark::Coarser(coarser));
+        }
+    }
+}
+
 impl<'a, S: Sources + Drop> Job<'a, S> {
     /// The sketches of the lines of all sources, one for each source, each of this seed. It fails if memory is
     /// refused or a source can't be read.
@@ -155,8 +185,12 @@ impl<'a, S: Sources + Drop> Job<'a, S> {
     }
 
     /// The sketches of all sources, each of this seed: those of their lines with `--keys`, else those that they have
-    /// as images.
-    fn operands<C: Console>(self, console: &mut C) -> Result<Vec<CompactThetaSketch>, Failure>
+    /// as images. `coarser` is then the remark on the image that retains more hashes than a union keeps, if one does.
+    fn operands<C: Console>(
+        self,
+        console: &mut C,
+        coarser: &mut Option<Coarser<'a>>,
+    ) -> Result<Vec<CompactThetaSketch>, Failure>
         requires seeded { seed_hash self.seed ≢ 0 }
         ensures seeded { IfOk result (λ v. AreSeeded self.entry.seed v.items) }
         ensures operands { IfSome (S.texts self.entry.inputs.sources) (λ texts. IfOk result (λ v.
@@ -170,7 +204,9 @@ impl<'a, S: Sources + Drop> Job<'a, S> {
         }
         let (alloc, options, seed) = (self.alloc, self.options, self.seed);
         let mut images = Images::new(alloc, self.inputs, options.hex, seed);
-        all_sketches(alloc, seed, options.hex, &mut images)
+        let sketches = all_sketches(alloc, seed, options.hex, &mut images);
+        *coarser = images.coarser(options.lg_k);
+        sketches
     }
 
     /// The result of an expression over the theta sketches of the sources, which have its names in their order.
@@ -188,13 +224,15 @@ impl<'a, S: Sources + Drop> Job<'a, S> {
         ensures fallible { IfErr result (UnreadableIf S.may_fail) }
     {
         let (alloc, options, seed) = (self.alloc, self.options, self.seed);
-        let sketches = self.operands(console)?;
+        let mut coarser = None;
+        let sketches = self.operands(console, &mut coarser)?;
         let found = sketches.len();
         let wanted = expression.names.len();
         if found != wanted {
             return Err(Failure::NotOneEach(found as u64, wanted as u64));
         }
         let result = result_of(alloc, options, seed, expression, sketches.as_slice())?;
+        remark_cut(coarser, &result, sketches.as_slice(), console);
         put_result(alloc, options, expression.text, &result)
     }
 
@@ -216,7 +254,7 @@ impl<'a, S: Sources + Drop> Job<'a, S> {
         ensures fallible { IfErr result (UnreadableIf S.may_fail) }
     {
         if self.options.sums {
-            return self.evaluate_sums(expression);
+            return self.evaluate_sums(expression, console);
         }
         self.evaluate_theta(expression, console)
     }

@@ -11,6 +11,7 @@ ghost use Rattle.expression_evaluation.specs.Values.{sum_rules, sums_value};
 ghost use Rattle.expression_evaluation.specs.Running.{sums_values, MayRefuse};
 ghost use Rattle.distinct_arguments.specs.Faults.{options_of};
 ghost use Rattle.distinct_inputs.specs.Lists.{names_of};
+ghost use Rattle.distinct_commands.specs.Eval.{is_cut};
 ghost use Rattle.distinct_commands.specs.EvalSums.{evaluated_sums_text, IsSumsEvaluated};
 ghost use Rattle.distinct_commands.specs.Failing.{IsOfResult, IsOfSumsResult};
 ghost use Rattle.distinct_commands.specs.Operands.{IsRead};
@@ -27,7 +28,7 @@ use crate::job::Job;
 use crate::sums::total_text;
 use distinct_arguments::Options;
 use distinct_inputs::Images;
-use distinct_messages::{Failure, out_of_memory};
+use distinct_messages::{Coarser, Console, Failure, Remark, out_of_memory};
 use expression_evaluation::evaluate_sums;
 use keys_sketches::{ReadError, Sources};
 use keys_sums::{all_sums, sums_image};
@@ -101,9 +102,43 @@ fn put_result(
     Ok(text.into_bytes())
 }
 
+/// Whether a result has a lower theta than each of the sketches that it is made of: a union in it dropped keys.
+fn is_cut(evaluated: &CompactTupleSketch<u64>, sketches: &[CompactTupleSketch<u64>]) -> bool
+    ensures { result ≡ is_cut evaluated.now sketches.now }
+{
+    let theta = evaluated.theta64();
+    let mut rest = sketches;
+    while let Some((sketch, others)) = rest.split_first() {
+        if sketch.theta64() <= theta {
+            return false;
+        }
+        rest = others;
+    }
+    true
+}
+
+/// Remarks that an image retains more keys than a union keeps, if one does, and a union in the result of an expression
+/// over these sketches dropped keys.
+fn remark_cut<C: Console>(
+    coarser: Option<Coarser<'_>>,
+    evaluated: &CompactTupleSketch<u64>,
+    sketches: &[CompactTupleSketch<u64>],
+    console: &mut C,
+) {
+    if let Some(coarser) = coarser {
+        if is_cut(evaluated, sketches) {
+            console.remark(Remark::Coarser(coarser));
+        }
+    }
+}
+
 impl<'a, S: Sources + Drop> Job<'a, S> {
-    /// The sketches of sums that all sources have as images, each of this seed.
-    fn sums_operands(self) -> Result<Vec<CompactTupleSketch<u64>>, Failure>
+    /// The sketches of sums that all sources have as images, each of this seed. `coarser` is then the remark on the
+    /// image that retains more keys than a union keeps, if one does.
+    fn sums_operands(
+        self,
+        coarser: &mut Option<Coarser<'a>>,
+    ) -> Result<Vec<CompactTupleSketch<u64>>, Failure>
         ensures seeded { IfOk result (λ v. AreSeeded self.entry.seed v.items) }
         ensures operands { IfSome (S.texts self.entry.inputs.sources) (λ texts.
             IfOk result (λ v. AreReadSums self.entry.seed (images_of true self.entry.options.now.hex texts) v.items)) }
@@ -115,14 +150,21 @@ impl<'a, S: Sources + Drop> Job<'a, S> {
         let (alloc, options, seed) = (self.alloc, self.options, self.seed);
         let mut images = Images::of(alloc, self.inputs, true, options.hex, seed);
         match all_sums(alloc, seed, &mut images) {
-            Ok(sketches) => Ok(sketches),
+            Ok(sketches) => {
+                *coarser = images.coarser(options.lg_k);
+                Ok(sketches)
+            }
             Err(ReadError::Failed(error)) => Err(images.read_failure(error)),
             Err(ReadError::Refused(error)) => Err(image_failure(&images, true, options.hex, error)),
         }
     }
 
     /// The result of an expression over the sketches of sums of the sources, which have its names in their order.
-    pub fn evaluate_sums(self, expression: &Expression<'_>) -> Result<Vec<u8>, Failure>
+    pub fn evaluate_sums<C: Console>(
+        self,
+        expression: &Expression<'_>,
+        console: &mut C,
+    ) -> Result<Vec<u8>, Failure>
         requires seeded { seed_hash self.seed ≢ 0 }
         requires read { IsRead expression.now }
         ensures evaluated { IfSome (S.texts self.entry.inputs.sources) (λ texts. IfOk result (λ v.
@@ -132,13 +174,15 @@ impl<'a, S: Sources + Drop> Job<'a, S> {
         ensures fallible { IfErr result (UnreadableIf S.may_fail) }
     {
         let (alloc, options, seed) = (self.alloc, self.options, self.seed);
-        let sketches = self.sums_operands()?;
+        let mut coarser = None;
+        let sketches = self.sums_operands(&mut coarser)?;
         let found = sketches.len();
         let wanted = expression.names.len();
         if found != wanted {
             return Err(Failure::NotOneEach(found as u64, wanted as u64));
         }
         let result = result_of(alloc, options, seed, expression, sketches.as_slice())?;
+        remark_cut(coarser, &result, sketches.as_slice(), console);
         put_result(alloc, options, &result)
     }
 }

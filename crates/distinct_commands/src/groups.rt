@@ -16,7 +16,7 @@ ghost use Rattle.distinct_messages.specs.declared.failure.Failure.TheVariants as
 
 use crate::commands::image_to_put;
 use crate::job::Job;
-use crate::show::{chosen_deviations, head_of};
+use crate::show::{chosen_deviations, counted_line, head_of};
 use distinct_arguments::{Form, Options, Order};
 use distinct_inputs::Inputs;
 use distinct_messages::{Console, Failure, out_of_memory};
@@ -24,7 +24,7 @@ use keys_groups::{
     Group, GroupFile, Grouping, Groups, Ranked, files_of, group_sources, image_line, ranked_text,
 };
 use keys_lines::{Hashing, Key};
-use keys_reports::{count_line, json_line, report_of, tsv_row};
+use keys_reports::{json_line, report_of, tsv_row};
 use keys_sketches::{ReadError, Sources};
 use std::alloc::{AllocError, Global};
 use theta_sketches::CompactThetaSketch;
@@ -41,15 +41,14 @@ fn group_text(
     let report = report_of(sketch, chosen_deviations(options));
     match options.form {
         Form::Plain => {
-            let line = count_line(alloc, report, options.bounds.is_some())?;
+            let line = counted_line(alloc, options, report)?;
             let mut text = Vec::from_slice(alloc, name)?;
             text.push(b'\t')?;
             text.extend_from_slice(line.as_bytes())?;
             Ok(text)
         }
         Form::Tsv => {
-            let name = String::from_utf8_lossy(alloc, name)?;
-            let row = tsv_row(alloc, Some(name.as_str()), report)?;
+            let row = tsv_row(alloc, Some(name), report)?;
             Ok(row.into_bytes())
         }
         Form::Json => {

@@ -6,7 +6,7 @@ ghost use Rattle.distinct_inputs.specs.Lists.{names_of};
 ghost use Rattle.distinct_messages.specs.Failures.{display_name, UnreadableIf};
 ghost use Rattle.distinct_inputs.specs.Failures.{images_in, IsOfImages};
 ghost use Rattle.distinct_inputs.specs.Images.{remaining_images};
-ghost use Rattle.distinct_commands.specs.Texts.{chosen_deviations, count_text, shown_text, head_of};
+ghost use Rattle.distinct_commands.specs.Texts.{chosen_deviations, count_text, counted_line, shown_text, head_of};
 
 use crate::combine::next_sketch;
 use crate::job::Job;
@@ -14,7 +14,9 @@ use distinct_arguments::{Form, Options};
 use distinct_inputs::Images;
 use distinct_messages::{Failure, display_name};
 use estimates::Deviations;
-use keys_reports::{count_line, json_line, report_of, shown_line, tsv_head, tsv_row};
+use keys_reports::{
+    Report, count_line, human_line, json_line, report_of, shown_line, tsv_head, tsv_row,
+};
 use keys_sketches::Sources;
 use std::alloc::{AllocError, Global};
 use theta_sketches::CompactThetaSketch;
@@ -24,6 +26,21 @@ pub fn chosen_deviations(options: &Options<'_>) -> Deviations
     ensures { result ≡ chosen_deviations (options_of options.now) }
 {
     options.bounds.unwrap_or(Deviations::Two)
+}
+
+/// The line of a count: for people with `--human`, else its numbers, with bounds if they are chosen.
+pub fn counted_line(
+    alloc: Global,
+    options: &Options<'_>,
+    report: Report,
+) -> Result<String, AllocError>
+    ensures { IfOk result (λ text. string_bytes text ≡ counted_line (options_of options.now) report) }
+{
+    if options.human {
+        human_line(alloc, report)
+    } else {
+        count_line(alloc, report, options.bounds.is_some())
+    }
 }
 
 /// What `count` prints of a sketch.
@@ -36,7 +53,7 @@ pub fn count_text(
 {
     let report = report_of(sketch, chosen_deviations(options));
     match options.form {
-        Form::Plain => count_line(alloc, report, options.bounds.is_some()),
+        Form::Plain => counted_line(alloc, options, report),
         Form::Tsv => {
             let mut text = tsv_head(alloc, false)?;
             let row = tsv_row(alloc, None, report)?;
@@ -70,7 +87,7 @@ pub fn shown_text(
     let report = report_of(sketch, chosen_deviations(options));
     match options.form {
         Form::Plain => shown_line(alloc, name, report),
-        Form::Tsv => tsv_row(alloc, Some(name), report),
+        Form::Tsv => tsv_row(alloc, Some(name.as_bytes()), report),
         Form::Json => json_line(alloc, Some(name), report),
     }
 }

@@ -11,7 +11,8 @@ ghost use Rattle.distinct_arguments.specs.Faults.{options_of};
 ghost use Rattle.distinct_arguments.specs.Settings.{OptionValues, chosen_value};
 ghost use Rattle.distinct_inputs.specs.Failures.{chosen_amount, HasGreatSum, HasNoNumberIn, IsOfSums, IsOfTotal};
 ghost use Rattle.distinct_messages.specs.Failures.{UnreadableIf};
-ghost use Rattle.distinct_commands.specs.Sums.{sums_of, total_text, IsSumsText, IsTotalText};
+ghost use Rattle.totals.specs.Totals.{lines_total};
+ghost use Rattle.distinct_commands.specs.Sums.{exact_total, lines_totalled_in, sums_of, total_text, IsSumsText, IsTotalText};
 
 use crate::commands::in_form;
 use crate::job::Job;
@@ -20,9 +21,12 @@ use distinct_inputs::Inputs;
 use distinct_messages::{Failure, out_of_memory};
 use keys_lines::Hashing;
 use keys_sketches::Sources;
-use keys_sums::{Amount, SumError, sum_sources, sums_image};
+use keys_sums::{Amount, SumError, SumsOfLines, sum_sources, sums_image};
 use std::alloc::{AllocError, Global};
-use totals::{total_json_line, total_line, total_of, total_tsv_head, total_tsv_row};
+use totals::{
+    lines_total, lines_total_json_line, lines_total_line, lines_total_tsv_head,
+    lines_total_tsv_row, total_json_line, total_line, total_of, total_tsv_head, total_tsv_row,
+};
 use tuple_sketches::CompactTupleSketch;
 
 /// What each line adds to the sum of its key, if `sketch` writes sums.
@@ -79,7 +83,7 @@ fn image_of_sums(sums: &CompactTupleSketch<u64>, seed: u64) -> Result<Vec<u8>, F
     }
 }
 
-/// What `sum` prints of a sketch of sums.
+/// What `eval` prints of a sketch of sums.
 pub fn total_text(
     alloc: Global,
     form: Form,
@@ -100,13 +104,32 @@ pub fn total_text(
     }
 }
 
+/// What `sum` prints of the sums of lines.
+fn lines_total_text(alloc: Global, form: Form, sums: &SumsOfLines) -> Result<String, AllocError>
+    ensures { IfOk result (λ text. string_bytes text ≡ lines_totalled_in form (lines_total sums.now.sketch sums.now.total)) }
+{
+    let total = lines_total(&sums.sketch, sums.total);
+    match form {
+        Form::Plain => lines_total_line(alloc, total),
+        Form::Tsv => {
+            let mut text = lines_total_tsv_head(alloc)?;
+            let row = lines_total_tsv_row(alloc, total)?;
+            text.push_str(row.as_str())?;
+            Ok(text)
+        }
+        Form::Json => lines_total_json_line(alloc, total),
+    }
+}
+
 impl<'a, S: Sources + Drop> Job<'a, S> {
-    /// The sketch of the lines of all sources, each key with the sum of what its lines add. It fails if memory is
+    /// The sketch of the lines of all sources, each key with the sum of what its lines add, and the total. It fails if memory is
     /// refused, a source can't be read, a sum would be 2^64 or more, or a line adds no number.
-    pub fn sums_of(self, amount: Amount) -> Result<CompactTupleSketch<u64>, Failure>
+    pub fn sums_of(self, amount: Amount) -> Result<SumsOfLines, Failure>
         requires seeded { seed_hash self.seed ≢ 0 }
         ensures sums { IfSome (S.texts self.entry.inputs.sources) (λ texts.
-            IfOk result (λ s. s ≡ sums_of (options_of self.entry.options.now) amount self.entry.seed texts)) }
+            IfOk result (λ s. s.sketch ≡ sums_of (options_of self.entry.options.now) amount self.entry.seed texts)) }
+        ensures total { IfSome (S.texts self.entry.inputs.sources) (λ texts.
+            IfOk result (λ s. s.total ≡ exact_total amount texts)) }
         ensures numbers { IfSome (S.texts self.entry.inputs.sources) (λ texts.
             IfOk result (λ _. AreNumbers amount (lines_of_all texts))) }
         ensures failed { IfErr result
@@ -142,7 +165,7 @@ impl<'a, S: Sources + Drop> Job<'a, S> {
     {
         let (alloc, options, seed) = (self.alloc, self.options, self.seed);
         let sums = self.sums_of(amount)?;
-        let image = image_of_sums(&sums, seed)?;
+        let image = image_of_sums(&sums.sketch, seed)?;
         in_form(alloc, options.hex, image)
     }
 
@@ -161,7 +184,7 @@ impl<'a, S: Sources + Drop> Job<'a, S> {
             return Err(Failure::Arguments(Fault::SumNeedsValue));
         };
         let sums = self.sums_of(Amount::Number(field))?;
-        let text = total_text(alloc, options.form, &sums)?;
+        let text = lines_total_text(alloc, options.form, &sums)?;
         Ok(text.into_bytes())
     }
 }

@@ -9,7 +9,7 @@ ghost use Rattle.distinct_inputs.specs.Failures.{unites_groups, IsOfGroups, Repo
 
 use crate::job::Job;
 use distinct_arguments::{Operator, Options};
-use distinct_messages::{Coarser, Console, Failure, Remark, out_of_memory};
+use distinct_messages::{Coarser, Console, Failure, Remark, display_name, out_of_memory};
 use keys_groups::{LineFlaw, UniteError, unite_groups, united_text};
 use keys_sketches::Sources;
 use std::alloc::Global;
@@ -39,14 +39,15 @@ fn line_failure(alloc: Global, name: &str, line: u64, flaw: LineFlaw) -> Failure
     }
 }
 
-/// The remark that an image retains this many hashes, if these are more than 2^`lg_k`.
-fn warning_of(retained: u64, lg_k: u8) -> Option<Coarser<'static>>
-    ensures some { IfSome result (λ c. (2 ^ lg_k < retained) × (c.retained ≡ retained) × (c.lg_k ≡ lg_k)) }
+/// The remark that an image in the file of this name retains this many hashes, if these are more than 2^`lg_k`.
+fn warning_of(name: &str, retained: u64, lg_k: u8) -> Option<Coarser<'_>>
+    ensures some { IfSome result (λ c.
+        (2 ^ lg_k < retained) × (c.retained ≡ retained) × (c.lg_k ≡ lg_k) × (c.name.now ≡ name.now)) }
     ensures none { IfNone result (retained ≤ 2 ^ lg_k) }
 {
     if lg_k < 64 && 1u64 << lg_k < retained {
         Some(Coarser {
-            name: "an image",
+            name,
             retained,
             lg_k,
         })
@@ -55,9 +56,17 @@ fn warning_of(retained: u64, lg_k: u8) -> Option<Coarser<'static>>
     }
 }
 
-/// Remarks that an image retains more hashes than 2^`lg_k`, if one does.
-fn remark_coarser<C: Console>(retained: u64, lg_k: u8, console: &mut C) {
-    if let Some(coarser) = warning_of(retained, lg_k) {
+/// The name, in messages, of the file of this number, from 1.
+fn name_at(names: &[String], number: u64) -> &str {
+    match names.get(number.saturating_sub(1) as usize) {
+        Some(name) => display_name(name.as_str()),
+        None => "an image",
+    }
+}
+
+/// Remarks that the image in the file of this name retains more hashes than 2^`lg_k`, if it does.
+fn remark_coarser<C: Console>(name: &str, retained: u64, lg_k: u8, console: &mut C) {
+    if let Some(coarser) = warning_of(name, retained, lg_k) {
         console.remark(Remark::Coarser(coarser));
     }
 }
@@ -74,10 +83,12 @@ impl<'a, S: Sources + Drop> Job<'a, S> {
     {
         let (alloc, options, seed) = (self.alloc, self.options, self.seed);
         let mut inputs = self.inputs;
+        let names = inputs.names_left();
         match unite_groups(alloc, seed, options.lg_k, &mut inputs) {
             Ok(groups) => {
                 let mut groups = groups;
-                remark_coarser(groups.most_retained(), options.lg_k, console);
+                let name = name_at(names, groups.most_source());
+                remark_coarser(name, groups.most_retained(), options.lg_k, console);
                 match united_text(alloc, &mut groups) {
                     Ok(text) => Ok(text),
                     Err(error) => Err(out_of_memory(error)),

@@ -130,7 +130,7 @@ impl<'a, S: Sources + Drop> Job<'a, S> {
     {
         let (alloc, options) = (self.alloc, self.options);
         let visits = self.sums_of(Amount::One)?;
-        let text = visits_text(alloc, options, &visits)?;
+        let text = visits_text(alloc, options, &visits.sketch)?;
         Ok(text.into_bytes())
     }
 

@@ -14,7 +14,8 @@ use Rattle.std.proofs.lemmas.Bool.{cond_both}
 use Rattle.std.proofs.lemmas.Str.Ascii.{trim_ascii_is}
 use Rattle.keys_sketches.specs.Hex.{bytes_of_hex}
 use Rattle.keys_sketches.specs.Sources.{GivesNext}
-use Rattle.distinct_inputs.specs.Images.{only_image, count_of, is_followed, ended_lines, line_image, line_images, or_none, images_behind, images_in_lines, parts_left, open_text, GivesOrCloses}
+use Rattle.core_images.specs.Head.{theta_head, tuple_head}
+use Rattle.distinct_inputs.specs.Images.{only_image, count_of, is_followed, ended_lines, line_image, line_images, or_none, images_behind, images_in_lines, parts_left, open_text, GivesOrCloses, IsOnlyImage}
 
 -- the first line of a text, and the lines after it
 ended_first : (b : ℕ) (t : List ℕ) → ended_lines (b ∷ t) ≡ take_through 10 (b ∷ t) ∷ ended_lines (drop_through 10 (b ∷ t))
@@ -176,8 +177,15 @@ at_last (Some images) now new true line remaining None (Some texts) left shown s
 
 -- no bytes have no entries
 pub count_of_nothing : (sums : Bool) → count_of sums [] ≡ 0
+unfolding theta_head tuple_head
 count_of_nothing true = refl
 count_of_nothing false = refl
+
+-- nothing follows no bytes
+pub only_nothing : (sums : Bool) → IsOnlyImage sums []
+unfolding theta_head tuple_head
+only_nothing true = tt
+only_nothing false = tt
 
 -- bytes have no more entries once they are none if something follows an image
 pub count_of_only_image : (sums only_sums : Bool) (bytes : List ℕ) (most : ℕ) → count_of sums bytes ≤ most → count_of sums (only_image only_sums bytes) ≤ most

@@ -8,7 +8,8 @@ use Rattle.keys_lines.specs.Lines.{lines_of, lines_of_all}
 use Rattle.keys_lines.specs.declared.key.Hashing.{Hashing}
 use Rattle.keys_lines.specs.declared.key.Key.{Key}
 use Rattle.keys_sketches.specs.Refusals.{HasFault}
-use Rattle.keys_sketches.specs.declared.header.Flaw.TheVariants.{Damaged}
+use Rattle.core_images.specs.declared.flaw.Flaw.TheVariants.{Damaged}
+use Rattle.keys_sketches.specs.declared.header.Flaw.TheVariants.{Image}
 use Rattle.keys_sketches.specs.declared.sketching.ReadError.{ReadError}
 use Rattle.keys_sketches.specs.declared.sketching.ReadError.TheVariants.{Refused, Failed}
 use Rattle.keys_sums.specs.Amounts.{added_by}
@@ -52,10 +53,10 @@ ReportsUnreadable name error _ = ⊥
 abbrev pub ReportsNoSketch : {S R : Type 0} → (sums hex : Bool) → Images S R → Failure → Type 0
 ReportsNoSketch sums hex images Memory = ⊤
 ReportsNoSketch sums hex images (NoSketch file number flaw) =
-    (string_bytes file ≡ display_name images.inputs.current.now) × (number ≡ images.line) × (sums ≡ false) × (flaw ≡ unwrap_or images.flaw Damaged)
+    (string_bytes file ≡ display_name images.inputs.current.now) × (number ≡ images.line) × (sums ≡ false) × (flaw ≡ unwrap_or images.flaw (Image Damaged))
     × ((hex && images.line == 0) ≡ false) × ((hex && is_none images.flaw) ≡ false)
 ReportsNoSketch sums hex images (NoSums file number flaw) =
-    (string_bytes file ≡ display_name images.inputs.current.now) × (number ≡ images.line) × (sums ≡ true) × (flaw ≡ unwrap_or images.flaw Damaged)
+    (string_bytes file ≡ display_name images.inputs.current.now) × (number ≡ images.line) × (sums ≡ true) × (flaw ≡ unwrap_or images.flaw (Image Damaged))
     × ((hex && images.line == 0) ≡ false) × ((hex && is_none images.flaw) ≡ false)
 ReportsNoSketch sums hex images (NoHex file number) =
     (string_bytes file ≡ display_name images.inputs.current.now)

@@ -8,10 +8,9 @@ use Rattle.std.specs.List.{onto_first, prefix_len, suffix_len}
 use Rattle.std.specs.Char.{is_ascii_whitespace}
 use Rattle.sketch_base.specs.Seed.{seed_hash}
 use Rattle.keys_sketches.specs.Hex.{hex_of, bytes_of_hex}
-use Rattle.keys_sketches.specs.Header.{image_length, entry_count, flaw_of}
+use Rattle.keys_sketches.specs.Header.{image_length, entry_count, flaw_of, sums_length, sums_count, sums_flaw_of}
 use Rattle.keys_sketches.specs.Refusals.{IsNoImage, HasFault}
 use Rattle.keys_sketches.specs.Sources.{GivesNext}
-use Rattle.keys_sketches.specs.SumsHeader.{sums_length, sums_count, sums_flaw_of}
 use Rattle.keys_sums.specs.Unions.{AreNoSums}
 use Rattle.keys_sketches.specs.declared.header.Flaw.{Flaw}
 use Rattle.distinct_inputs.specs.declared.images.Images.{Images}

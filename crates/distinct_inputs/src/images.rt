@@ -14,8 +14,8 @@ ghost use Rattle.distinct_inputs.specs.Failures.{ReportsNoSketch, ReportsPastUni
 use crate::inputs::Inputs;
 use distinct_messages::{Coarser, Failure};
 use keys_sketches::{
-    Flaw, Sources, entry_count, flaw_of, image_length, read_hex, sums_count, sums_flaw_of,
-    sums_length,
+    Flaw, ImageFlaw, Sources, entry_count, flaw_of, image_length, read_hex, sums_count,
+    sums_flaw_of, sums_length,
 };
 use sketch_base::{ErrorKind as KindOfError, compute_seed_hash};
 use std::alloc::Global;
@@ -167,7 +167,7 @@ impl<'a, S: Sources> Images<'a, S> {
         if hex && self.flaw.is_none() {
             return Failure::NoHex(name, self.line);
         }
-        let flaw = self.flaw.unwrap_or(Flaw::Damaged);
+        let flaw = self.flaw.unwrap_or(Flaw::Image(ImageFlaw::Damaged));
         if sums {
             Failure::NoSums(name, self.line, flaw)
         } else {

@@ -1,51 +1,117 @@
 //! The files that the program reads.
 ghost use Rattle.std.specs.Prelude.{◌≡◌, Bool, true, false, None, Some, IfOk, IfErr, IfSome, OnOk};
+ghost use Rattle.std.specs.Io.{ReadsAtMost};
 ghost use Rattle.keys_sketches.specs.Sources.{GivesNext};
 ghost use Rattle.distinct_inputs.specs.Failures.{IsOfList, IsOfReading, NotesNext, ReportsUnreadable};
 ghost use Rattle.distinct_messages.specs.Failures.{display_name, UnreadableIf};
 ghost use Rattle.distinct_inputs.specs.Lists.{are_lines, names_in, names_of};
 
 use crate::lists::{ListError, names_in};
-use distinct_messages::{Failure, display_name};
+use distinct_arguments::Share;
+use distinct_messages::{Failure, NoLines, Remark, display_name, nature_of};
+use keys_parts::{Part, Places};
 use keys_sketches::{Sources, TextReader};
 use std::alloc::Global;
 use std::fs::File;
-use std::io::{IsTerminal, Read};
+use std::io::{ErrorKind, IsTerminal, Read, Seek, SeekFrom};
 use std::rt::Stdin;
 use std::{fs, io};
 
-/// A file, or standard input.
+/// A file, or standard input, opened.
 #[derive(Drop)]
-pub enum Input {
+enum Opened {
     Standard(Stdin),
     File(File),
 }
 
-impl Read for Input {
-    fn read(&mut self, buf: &mut [u8]) -> io::Result<usize> {
+impl Opened {
+    /// Reads once.
+    fn read_once(&mut self, buf: &mut [u8]) -> io::Result<usize>
+        ensures bound { ReadsAtMost result buf.new }
+    {
         match self {
-            Input::Standard(input) => input.read(buf),
-            Input::File(file) => file.read(buf),
+            Opened::Standard(input) => input.read(buf),
+            Opened::File(file) => file.read(buf),
         }
     }
 }
 
-impl TextReader for Input {
-    ghost use Rattle.std.specs.Prelude.{true};
+/// A warning to be printed of a file whose first bytes aren't those of lines.
+#[derive(Clone, Copy)]
+struct Warning<'a> {
+    rt: &'a HostRuntime,
+    name: &'a str,
+    command: &'a str,
+}
+
+impl Warning<'_> {
+    /// Prints the warning, if a file that begins with these bytes has no lines.
+    fn print_of(self, bytes: &[u8]) {
+        if let Some(nature) = nature_of(bytes) {
+            let remark = Remark::NoLines(NoLines {
+                name: self.name,
+                nature,
+                command: self.command,
+            });
+            let _ = eprintln!(self.rt; "distinct: {remark}");
+        }
+    }
+}
+
+/// A file, or standard input. If it is read as lines, its first bytes are looked at once.
+#[derive(Drop)]
+pub struct Input<'a> {
+    opened: Opened,
+    warning: Option<Warning<'a>>,
+}
+
+impl Read for Input<'_> {
+    fn read(&mut self, buf: &mut [u8]) -> io::Result<usize> {
+        let length = self.opened.read_once(buf)?;
+        if let Some(warning) = self.warning {
+            self.warning = None;
+            warning.print_of(&buf[..length]);
+        }
+        Ok(length)
+    }
+}
+
+impl TextReader for Input<'_> {
+    ghost use Rattle.std.specs.Prelude.{◌≡◌, true};
 
     ghost may_fail = { true };
 
-    fn may_fail() -> bool {
+    fn may_fail() -> bool
+        ensures { result ≡ true }
+    {
         true
     }
 }
 
-/// Opens the file of this name, or standard input for `-`.
-fn open(rt: &HostRuntime, name: &str) -> io::Result<Input> {
-    if name == "-" {
-        return Ok(Input::Standard(rt.stdin()));
+/// What a message says of a file that has no parts.
+const NO_PARTS: &str = "is not a regular file, as --part needs: copy it to one, or read it whole";
+
+/// The places of a part in a file, which is then positioned at their start. Only a regular file has parts. A file's length
+/// counts as it is now.
+fn seek_part(file: &mut File, share: Share) -> io::Result<Places> {
+    let metadata = file.metadata()?;
+    if metadata.is_dir() {
+        return Err(io::Error::from(ErrorKind::IsADirectory));
     }
-    Ok(Input::File(fs::open(rt, name)?))
+    if !metadata.is_file() {
+        return Err(io::Error::new(ErrorKind::InvalidInput, NO_PARTS));
+    }
+    let places = Places::of_part(metadata.len(), share.index, share.parts);
+    file.seek(SeekFrom::Start(places.start()))?;
+    Ok(places)
+}
+
+/// Opens the file of this name, or standard input for `-`.
+fn open(rt: &HostRuntime, name: &str) -> io::Result<Opened> {
+    if name == "-" {
+        return Ok(Opened::Standard(rt.stdin()));
+    }
+    Ok(Opened::File(fs::open(rt, name)?))
 }
 
 /// Files, opened one after another.
@@ -54,6 +120,9 @@ pub struct Files<'a> {
     rt: &'a HostRuntime,
     is_standard: bool,
     left: &'a [String],
+    command: Option<&'static str>,
+    is_quiet: bool,
+    share: Option<Share>,
 }
 
 impl<'a> Files<'a> {
@@ -63,7 +132,53 @@ impl<'a> Files<'a> {
             rt,
             is_standard: or_standard && names.is_empty(),
             left: names,
+            command: None,
+            is_quiet: false,
+            share: None,
         }
+    }
+
+    /// The same files, of which this part of each is read, or all if it is `None`: the lines whose first byte is in the
+    /// part. Then each file must be a regular file, and its length counts as it is when it is opened.
+    pub fn in_part(self, share: Option<Share>) -> Files<'a> {
+        Files { share, ..self }
+    }
+
+    /// The same files, which this command reads as lines: of one whose first bytes aren't those of lines, a warning is
+    /// printed on standard error. Without a command there are no warnings, and if `is_quiet` nothing at all is printed.
+    pub fn watched(self, command: Option<&'static str>, is_quiet: bool) -> Files<'a> {
+        Files {
+            command,
+            is_quiet,
+            ..self
+        }
+    }
+
+    /// The warning to be printed of a file of this name, if its first bytes aren't those of lines.
+    fn warning_of(&self, name: &'a str) -> Option<Warning<'a>> {
+        match self.command {
+            Some(command) if !self.is_quiet => Some(Warning {
+                rt: self.rt,
+                name,
+                command,
+            }),
+            _ => None,
+        }
+    }
+
+    /// What is read of the file of this name.
+    fn part_of(&self, name: &'a str) -> io::Result<Part<Input<'a>>> {
+        let mut opened = open(self.rt, name)?;
+        let warning = self.warning_of(name);
+        let Some(share) = self.share else {
+            return Ok(Part::whole(Input { opened, warning }));
+        };
+        let Opened::File(file) = &mut opened else {
+            return Err(io::Error::new(ErrorKind::InvalidInput, NO_PARTS));
+        };
+        let places = seek_part(file, share)?;
+        let warning = if places.start() == 0 { warning } else { None };
+        Ok(Part::new(Input { opened, warning }, places))
     }
 
     /// The next name.
@@ -79,7 +194,7 @@ impl<'a> Files<'a> {
 }
 
 impl<'a> Sources for Files<'a> {
-    type Source = Input;
+    type Source = Part<Input<'a>>;
 
     ghost texts = { λ _. None };
 
@@ -93,17 +208,17 @@ impl<'a> Sources for Files<'a> {
         true
     }
 
-    fn next_source(&mut self) -> io::Result<Option<Input>> {
+    fn next_source(&mut self) -> io::Result<Option<Part<Input<'a>>>> {
         let Some(name) = self.next_name() else {
             return Ok(None);
         };
-        let input = open(self.rt, name)?;
-        if name == "-" && self.rt.stdin().is_terminal() {
+        let part = self.part_of(name)?;
+        if name == "-" && !self.is_quiet && self.rt.stdin().is_terminal() {
             let _ = eprintln!(self.rt;
                 "distinct: reading from the terminal; press Ctrl-D to finish"
             );
         }
-        Ok(Some(input))
+        Ok(Some(part))
     }
 }
 
@@ -126,6 +241,13 @@ impl<'a, S: Sources> Inputs<'a, S> {
             current: "-",
             left: names,
         }
+    }
+
+    /// The names of the sources that are left.
+    pub fn names_left(&self) -> &'a [String]
+        ensures { result.now ≡ self.now.left.now }
+    {
+        self.left
     }
 
     /// The name, in messages, of the source that was opened last.
@@ -189,11 +311,14 @@ fn read_failure(alloc: Global, name: &str, may_fail: bool, error: io::Error) -> 
 }
 
 /// The file of this name, opened, or standard input for `-`.
-pub(crate) fn open_input(rt: &HostRuntime, name: &str) -> Result<Input, Failure>
+pub(crate) fn open_input<'a>(rt: &HostRuntime, name: &str) -> Result<Input<'a>, Failure>
     ensures failed { IfErr result IsOfReading }
 {
     match open(rt, name) {
-        Ok(input) => Ok(input),
+        Ok(opened) => Ok(Input {
+            opened,
+            warning: None,
+        }),
         Err(error) => Err(read_failure(rt.alloc(), name, true, error)),
     }
 }

@@ -2,6 +2,8 @@
 use Rattle.std.specs.Prelude.{ℕ, ◌≡◌, ⊤, Bool, true, List, codes, string_bytes, if◌then◌else◌}
 use Rattle.std.specs.Str.{bytes_eq}
 use Rattle.std.specs.declared.io.Error.{Error}
+use Rattle.std.specs.IoError.{error_kind}
+use Rattle.std.specs.declared.io.ErrorKind.TheVariants.{BrokenPipe}
 use Rattle.distinct_arguments.specs.Faults.{fault_status}
 use Rattle.distinct_messages.specs.declared.failure.Failure.{Failure}
 use Rattle.distinct_messages.specs.declared.failure.Failure.TheVariants.{NotText, Arguments, NoFiles, NotTwo}
@@ -17,6 +19,11 @@ failure_status NotTwo = 2
 failure_status (NoExpression text fault) = 2
 failure_status Terminal = 2
 failure_status _ = 1
+
+-- standard output failed because its reader closed it
+abbrev pub IsClosedOutput : Failure → Type 0
+IsClosedOutput (NotWritten name error) = (string_bytes name ≡ codes "standard output") × (error_kind error ≡ BrokenPipe)
+IsClosedOutput _ = ⊥
 
 -- the name of a file in messages
 abbrev pub display_name : List ℕ → List ℕ

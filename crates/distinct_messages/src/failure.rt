@@ -1,15 +1,16 @@
 //! Why the program fails.
-ghost use Rattle.std.specs.Prelude.{◌≡◌};
+ghost use Rattle.std.specs.Prelude.{◌≡◌, true, false};
 ghost use Rattle.sketch_base.specs.declared.error.ErrorKind.TheVariants.{OutOfMemory};
 ghost use Rattle.distinct_arguments.specs.declared.fault.Fault.{Fault};
-ghost use Rattle.distinct_messages.specs.Failures.{failure_status, display_name};
+ghost use Rattle.distinct_messages.specs.Failures.{failure_status, display_name, IsClosedOutput};
 ghost use Rattle.distinct_messages.specs.declared.failure.Failure.TheVariants as failure;
 
 use distinct_arguments::{Escaped, Fault};
 use expression_text::{MAX_LEVELS, Reason, SyntaxFault};
-use keys_sketches::Flaw;
+use keys_sketches::{Flaw, ImageFlaw};
 use sketch_base::Error;
 use std::alloc::{AllocError, AllocFailed};
+use std::fmt::Write;
 use std::{fmt, io};
 
 /// Why the program fails. A file has the name by which it was given.
@@ -65,9 +66,24 @@ pub enum Failure {
     NotANumber(String, u64),
     /// Writing to standard output, or to the file of this name, failed.
     NotWritten(String, io::Error),
+    /// The file of a group would have this path, whose last part has this many bytes: more than fit.
+    LongName(String, u64),
 }
 
 impl Failure {
+    /// Whether standard output failed because nobody reads it any more: the program then ends without a message.
+    pub fn is_closed_output(&self) -> bool
+        ensures closed { result ≡ true → IsClosedOutput self.now }
+        ensures other { result ≡ false → IsClosedOutput self.now → ⊥ }
+    {
+        match self {
+            Failure::NotWritten(name, error) => {
+                name.as_str() == STANDARD_OUTPUT && error.kind() == io::ErrorKind::BrokenPipe
+            }
+            _ => false,
+        }
+    }
+
     /// The exit status: 2 if the arguments are wrong, else 1.
     pub fn status(&self) -> u8
         ensures { result ≡ failure_status self.now }
@@ -92,6 +108,9 @@ pub fn out_of_memory(error: Error) -> Failure
     let _ = error;
     Failure::Memory
 }
+
+/// The name of standard output in messages.
+pub const STANDARD_OUTPUT: &str = "standard output";
 
 /// The name of standard input in messages.
 const STANDARD_INPUT: &str = "standard input";
@@ -126,6 +145,28 @@ impl fmt::Display for Named<'_> {
     }
 }
 
+/// Writes the words of an error, without the number that the system gives it, which is behind them.
+#[derive(Drop)]
+struct Words<'a, W> {
+    f: &'a mut fmt::Formatter<W>,
+    ended: bool,
+}
+
+impl<W: fmt::Write> fmt::Write for Words<'_, W> {
+    fn write_str(&mut self, text: &str) -> fmt::Result {
+        if self.ended {
+            return Ok(());
+        }
+        match text.split_once(" (os error ") {
+            Some((words, _)) => {
+                self.ended = true;
+                self.f.write_str(words)
+            }
+            None => self.f.write_str(text),
+        }
+    }
+}
+
 /// Why a file can't be read or written, as messages say it.
 #[derive(Drop)]
 struct Cause<'a>(&'a io::Error);
@@ -135,7 +176,8 @@ impl fmt::Display for Cause<'_> {
         if self.0.kind() == io::ErrorKind::IsADirectory {
             return write!(f, "is a directory");
         }
-        write!(f, "{}", self.0)
+        let mut words = Words { f, ended: false };
+        write!(words, "{}", self.0)
     }
 }
 
@@ -175,8 +217,8 @@ impl fmt::Display for Defect<'_> {
     fn fmt<W: fmt::Write>(&self, f: &mut fmt::Formatter<W>) -> fmt::Result {
         match self.0 {
             Flaw::Hexadecimal => write!(f, "is hexadecimal text: pass --hex"),
-            Flaw::Short => write!(f, "is not the image of a theta sketch"),
-            Flaw::Family(family) => match family_name(*family) {
+            Flaw::Image(ImageFlaw::Short) => write!(f, "is not the image of a theta sketch"),
+            Flaw::Image(ImageFlaw::Family(family)) => match family_name(*family) {
                 Some(sketches) => write!(
                     f,
                     "is not the image of a theta sketch (the third byte is {family}, the family of {sketches}, not 3)"
@@ -186,18 +228,24 @@ impl fmt::Display for Defect<'_> {
                     "is not the image of a theta sketch (the third byte is {family}, not 3)"
                 ),
             },
-            Flaw::Version(version) => write!(
+            Flaw::Image(ImageFlaw::Version(version)) => write!(
                 f,
                 "is of version {version}; versions 1 to 3 are read: write it in version 3, uncompressed"
             ),
-            Flaw::BigEndian => write!(f, "is in big-endian order: write it in little-endian order"),
-            Flaw::Seed => write!(f, "was made with another seed: pass that --seed"),
-            Flaw::Cut => write!(f, "is cut short: copy or make it again"),
-            Flaw::Longer => write!(
+            Flaw::Image(ImageFlaw::BigEndian) => write!(
+                f,
+                "is in big-endian order: write it in little-endian order"
+            ),
+            Flaw::Image(ImageFlaw::Seed) => write!(
+                f,
+                "was made with another seed: pass that --seed"
+            ),
+            Flaw::Image(ImageFlaw::Cut) => write!(f, "is cut short: copy or make it again"),
+            Flaw::Image(ImageFlaw::Longer) => write!(
                 f,
                 "has bytes after its image: a file has one image, or with --hex one per line"
             ),
-            Flaw::Damaged => write!(
+            Flaw::Image(ImageFlaw::Damaged) => write!(
                 f,
                 "is damaged (its preamble, theta or hashes are not valid): copy or make it again"
             ),
@@ -212,8 +260,8 @@ struct SumsDefect<'a>(&'a Flaw);
 impl fmt::Display for SumsDefect<'_> {
     fn fmt<W: fmt::Write>(&self, f: &mut fmt::Formatter<W>) -> fmt::Result {
         match self.0 {
-            Flaw::Short => write!(f, "is not an image of sums"),
-            Flaw::Family(family) => match family_name(*family) {
+            Flaw::Image(ImageFlaw::Short) => write!(f, "is not an image of sums"),
+            Flaw::Image(ImageFlaw::Family(family)) => match family_name(*family) {
                 Some(sketches) => write!(
                     f,
                     "is not an image of sums (the third byte is {family}, the family of {sketches}, not 9)"
@@ -223,11 +271,11 @@ impl fmt::Display for SumsDefect<'_> {
                     "is not an image of sums (the third byte is {family}, not 9)"
                 ),
             },
-            Flaw::Version(version) => write!(
+            Flaw::Image(ImageFlaw::Version(version)) => write!(
                 f,
                 "is of version {version}; versions 1 and 3 are read: write it in version 3"
             ),
-            Flaw::Damaged => write!(
+            Flaw::Image(ImageFlaw::Damaged) => write!(
                 f,
                 "is damaged (its preamble, sketch type, theta or hashes are not valid): copy or make it again"
             ),
@@ -295,8 +343,9 @@ impl fmt::Display for Failure {
             ),
             Failure::NoDir(name, error) => write!(
                 f,
-                "-C {}: the folder can't be entered: {error}",
-                Named(name)
+                "-C {}: the folder can't be entered: {}",
+                Named(name),
+                Cause(error)
             ),
             Failure::NoSeed(name) => write!(
                 f,
@@ -375,6 +424,11 @@ impl fmt::Display for Failure {
                 u64::MAX
             ),
             Failure::NotWritten(name, error) => write!(f, "{}: {}", Named(name), Cause(error)),
+            Failure::LongName(path, length) => write!(
+                f,
+                "{}: the file's name has {length} bytes, and at most 246 are allowed: write lines by --hex, without --output-dir",
+                Named(path)
+            ),
         }
     }
 }

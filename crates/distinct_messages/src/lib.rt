@@ -3,9 +3,11 @@
 #![tactic(auto)]
 
 mod failure;
+mod nature;
 mod output;
 mod remarks;
 
 pub use failure::{Failure, display_name, family_name, out_of_memory};
+pub use nature::{Nature, nature_of};
 pub use output::{put, write_failure};
-pub use remarks::{Coarser, Console, Remark};
+pub use remarks::{Coarser, Console, NoLines, Remark};

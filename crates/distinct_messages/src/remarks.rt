@@ -1,5 +1,7 @@
 //! What the program prints beside its answer: remarks on it, and reports of progress.
 
+use crate::failure::display_name;
+use crate::nature::Nature;
 use distinct_arguments::Escaped;
 use keys_groups::GroupWatch;
 use keys_reports::Report;
@@ -17,9 +19,64 @@ pub struct Coarser<'a> {
     pub lg_k: u8,
 }
 
+/// A file whose lines were requested has none.
+#[derive(Clone, Copy, Debug)]
+pub struct NoLines<'a> {
+    /// The file's name, as it was given.
+    pub name: &'a str,
+    /// What it has in place of lines.
+    pub nature: Nature,
+    /// The command, which reads the file's bytes as lines.
+    pub command: &'a str,
+}
+
+impl NoLines<'_> {
+    /// Writes that the file is compressed, and how its lines can be read: by a program that writes them.
+    fn put_compressed<W: fmt::Write>(
+        &self,
+        f: &mut fmt::Formatter<W>,
+        kind: &str,
+        program: &str,
+    ) -> fmt::Result {
+        let name = Escaped(display_name(self.name));
+        let command = self.command;
+        write!(
+            f,
+            "warning: {name} is compressed by {kind}, and its bytes are read as lines: {program}"
+        )?;
+        if self.name != "-" {
+            write!(f, " {}", Escaped(self.name))?;
+        }
+        write!(f, " | distinct {command}")
+    }
+}
+
+impl fmt::Display for NoLines<'_> {
+    fn fmt<W: fmt::Write>(&self, f: &mut fmt::Formatter<W>) -> fmt::Result {
+        let name = Escaped(display_name(self.name));
+        let file = Escaped(self.name);
+        match self.nature {
+            Nature::Gzip => self.put_compressed(f, "gzip", "zcat"),
+            Nature::Zstd => self.put_compressed(f, "zstd", "zstdcat"),
+            Nature::Xz => self.put_compressed(f, "xz", "xzcat"),
+            Nature::Bzip2 => self.put_compressed(f, "bzip2", "bzcat"),
+            Nature::Sketch => write!(
+                f,
+                "warning: {name} is the image of a sketch, and its bytes are read as lines: distinct show {file}"
+            ),
+            Nature::Sums => write!(
+                f,
+                "warning: {name} is an image of sums, and its bytes are read as lines: distinct eval --sums '{file}'"
+            ),
+        }
+    }
+}
+
 /// A remark on an answer.
 #[derive(Clone, Copy, Debug)]
 pub enum Remark<'a> {
+    /// A file has no lines.
+    NoLines(NoLines<'a>),
     /// A union is less exact than one of its images.
     Coarser(Coarser<'a>),
     /// The answer, an image, has an estimate.
@@ -29,6 +86,7 @@ pub enum Remark<'a> {
 impl fmt::Display for Remark<'_> {
     fn fmt<W: fmt::Write>(&self, f: &mut fmt::Formatter<W>) -> fmt::Result {
         match self {
+            Remark::NoLines(file) => write!(f, "{file}"),
             Remark::Coarser(coarser) => {
                 let name = Escaped(coarser.name);
                 let retained = coarser.retained;

@@ -18,7 +18,7 @@ fn add_day(union: &mut ThetaUnion, alloc: Global, names: &[&str]) -> Result<(), 
     ensures { OnOk result (AddsDay union.old union.new names.now) }
 {
     let mut sketch = ThetaSketchBuilder::default().lg_k(14).build(alloc)?;
-    'names: for name in names {
+    for name in names {
         sketch.update(*name)?;
     }
     union.update(sketch.as_view())?;
@@ -30,7 +30,7 @@ fn total(alloc: Global, days: &[&[&str]]) -> Result<CompactThetaSketch, Error>
     ensures { IfOk result (λ s. retained_of s ≡ kmin (2 ^ 14) (set_of (all_hashes days.now)) MAX_THETA) }
 {
     let mut union = ThetaUnionBuilder::default().lg_k(14).build(alloc)?;
-    'days: for names in days {
+    for names in days {
         add_day(&mut union, alloc, *names)?;
     }
     union.to_sketch(true)

@@ -18,7 +18,7 @@ fn sketch_of(alloc: Global, names: &[&str]) -> Result<ThetaSketch, Error>
     ensures { IfOk result (λ s. IsSketchOf 14 MAX_THETA DEFAULT_UPDATE_SEED s (day_hashes names.now)) }
 {
     let mut sketch = ThetaSketchBuilder::default().lg_k(14).build(alloc)?;
-    'names: for name in names {
+    for name in names {
         sketch.update(*name)?;
     }
     Ok(sketch)

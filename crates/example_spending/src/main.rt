@@ -24,7 +24,7 @@ fn add_day(
 {
     let policy = DefaultUpdatePolicy::<u64>::default();
     let mut sketch = TupleSketchBuilder::new(policy).lg_k(14).build(alloc)?;
-    'purchases: for purchase in purchases {
+    for purchase in purchases {
         sketch.update(purchase.0, purchase.1)?;
     }
     union.update(sketch.as_view())?;
@@ -38,7 +38,7 @@ fn spent(alloc: Global, days: &[&[(&str, u64)]]) -> Result<CompactTupleSketch<u6
 {
     let policy = DefaultUnionPolicy::<u64>::default();
     let mut union = TupleUnionBuilder::new(policy).lg_k(14).build(alloc)?;
-    'days: for purchases in days {
+    for purchases in days {
         add_day(&mut union, alloc, *purchases)?;
     }
     let sums = union.to_sketch(true)?;

@@ -1,5 +1,6 @@
 //! Groups of images, each with the union of its images.
-ghost use Rattle.std.specs.Prelude.{◌≡◌, ◌++◌, ◌∷◌, ℕ, List, [], true, Some, None, IfOk, IfErr, OnOk, max};
+ghost use Rattle.std.specs.Prelude.{◌≡◌, ◌+◌, ◌-◌, ◌^◌, ◌++◌, ◌∷◌, ℕ, List, [], true, Some, None, IfOk, IfErr, OnOk};
+ghost use Rattle.std.specs.Prelude.{max, min, nat_lt, if◌then◌else◌};
 ghost use Rattle.keys_sketches.specs.Header.{entry_count};
 ghost use Rattle.keys_sketches.specs.Hex.{bytes_of_hex};
 ghost use Rattle.sketch_base.specs.Seed.{seed_hash};
@@ -66,6 +67,10 @@ pub struct UnitedGroups {
     pub(crate) map: BTreeMap<Vec<u8>, ThetaUnion>,
     /// The most hashes that an image retains.
     most: u64,
+    /// How many sources were read.
+    sources: u64,
+    /// The number, from 1, of the first source with such an image; 0 if there is none.
+    most_source: u64,
 }
 
 /// The line of a group: its name, a tab, its image in hexadecimal digits, and an LF. The only error is `AllocError`.
@@ -144,6 +149,22 @@ impl UnitedGroups {
         UnitedGroups {
             map: BTreeMap::new(alloc),
             most: 0,
+            sources: 0,
+            most_source: 0,
+        }
+    }
+
+    /// Notes that a source was read, before which the most hashes of an image were these.
+    pub(crate) fn end_source(&mut self, before: u64)
+        ensures map { self.new.map ≡ self.old.map }
+        ensures most { self.new.most ≡ self.old.most }
+        ensures sources { self.new.sources ≡ min (self.old.sources + 1) (2 ^ 64 - 1) }
+        ensures most_source { self.new.most_source
+            ≡ (if nat_lt before self.old.most then min (self.old.sources + 1) (2 ^ 64 - 1) else self.old.most_source) }
+    {
+        self.sources = self.sources.saturating_add(1);
+        if before < self.most {
+            self.most_source = self.sources;
         }
     }
 
@@ -248,6 +269,13 @@ impl UnitedGroups {
         ensures { result ≡ self.now.most }
     {
         self.most
+    }
+
+    /// The number, from 1, of the first source that has an image with the most hashes; 0 if there is no image with any.
+    pub fn most_source(&self) -> u64
+        ensures { result ≡ self.now.most_source }
+    {
+        self.most_source
     }
 
     /// Takes out the first group of those that are left, or returns `None` if none is. Refused only with

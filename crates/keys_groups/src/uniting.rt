@@ -137,7 +137,9 @@ pub fn unite_groups<S: Sources>(
     for _ in 0..u64::MAX {
         match sources.next_source() {
             Ok(Some(source)) => {
+                let before = groups.most_retained();
                 add_lines(&mut groups, alloc, seed, lg_k, source)?;
+                groups.end_source(before);
             }
             Ok(None) => {
                 names_ascend(&groups.map);

@@ -1,3 +1,5 @@
 pub mod Consistency
+pub mod OddNames
 pub mod PlainNames
 pub mod Respellings
+pub mod HumanCases

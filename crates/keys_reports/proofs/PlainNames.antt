@@ -2,10 +2,9 @@
 use Rattle.std.proofs.Common.{ℕ, ◌+◌, ◌/◌, ◌%◌, ◌≡◌, ◌<◌, ◌≤◌, ◌==◌, Bool, true, false, cond, nat_lt, List, [], ◌∷◌, ◌++◌, chars, refl, arith}
 use Rattle.std.proofs.lemmas.Bool.Decides.{nat_tests}
 use Rattle.std.specs.Char.{is_control, digit_char}
-use Rattle.std.specs.Char.Escape.{short_escape, escape_unicode, escape_default}
 use Rattle.std.specs.List.{flat_map}
 use Rattle.std.specs.Str.{NonePass, NoCharPasses}
-use Rattle.keys_reports.specs.Names.{respelled, line_char, escaped_name}
+use Rattle.keys_reports.specs.Names.{respelled, escaped_byte, escaped_control, line_char, escaped_name}
 
 none_joined : (p : ℕ → Bool) (xs ys : List ℕ) → NonePass p xs → NonePass p ys → NonePass p (xs ++ ys)
 none_joined p [] ys front back = back
@@ -31,49 +30,31 @@ printed_either : (b : Bool) (c d : ℕ) → is_control c ≡ false → is_contro
 printed_either true c d first second = first
 printed_either false c d first second = second
 
-printed_digit : (n : ℕ) → is_control (digit_char (n % 16)) ≡ false
-printed_digit n =
-    printed_either (nat_lt (n % 16) 10) (48 + n % 16) (87 + n % 16)
-    (printed (48 + n % 16) (omega arith) (omega arith))
-    (printed (87 + n % 16) (omega arith) (omega arith))
+printed_digit : (n : ℕ) → n < 16 → is_control (digit_char n) ≡ false
+printed_digit n small =
+    printed_either (nat_lt n 10) (48 + n) (87 + n)
+    (printed (48 + n) (omega arith) (omega (arith, small)))
+    (printed (87 + n) (omega arith) (omega (arith, small)))
 
--- the letter behind the backslash
-abbrev letter_of : (a b d e f g : Bool) → ℕ
-letter_of a b d e f g = cond a 116 (cond b 114 (cond d 110 (cond e 39 (cond f 34 (cond g 92 0)))))
-
-printed_letter : (a b d e f g : Bool) → nat_lt 0 (letter_of a b d e f g) ≡ true → is_control (letter_of a b d e f g) ≡ false
-printed_letter true b d e f g some = refl
-printed_letter false true d e f g some = refl
-printed_letter false false true e f g some = refl
-printed_letter false false false true f g some = refl
-printed_letter false false false false true g some = refl
-printed_letter false false false false false true some = refl
-printed_letter false false false false false false some = absurd (cc)
-
-small_control : (c : ℕ) → is_control c ≡ true → c < 0x100
+pub small_control : (c : ℕ) → is_control c ≡ true → c < 0x100
 small_control c control = grind (arith, nat_tests)
 
-printed_code : (c : ℕ) → c < 0x100 → NonePass is_control (escape_unicode c)
-printed_code c small =
-    either is_control (nat_lt c 0x10) _ _
-    (λ one. (refl, (refl, (refl, (printed_digit (c / 1), (refl, tt))))))
-    (λ more. either is_control (nat_lt c 0x100) _ _
-    (λ two. (refl, (refl, (refl, (printed_digit (c / 0x10), (printed_digit (c / 1), (refl, tt)))))))
-    (λ none. absurd (grind (arith, nat_tests))))
+printed_byte : (b : ℕ) → b < 0x100 → NonePass is_control (escaped_byte b)
+printed_byte b small = (refl, (refl, (printed_digit (b / 16) (omega (arith, small)), (printed_digit (b % 16) (omega arith), tt))))
 
-narrow_control : (c : ℕ) → is_control c ≡ true → nat_lt c 32 ≡ false → nat_lt c 127 ≡ true → ⊥
-narrow_control c control wide narrow = grind (arith, nat_tests)
-
-printed_escape : (c : ℕ) → is_control c ≡ true → NonePass is_control (escape_default c)
-printed_escape c control =
-    let code : NonePass is_control (escape_unicode c) = printed_code c (small_control c control) in
-    either is_control (nat_lt 0 (short_escape c)) _ _
-    (λ some. (refl, (printed_letter (c == 9) (c == 13) (c == 10) (c == 39) (c == 34) (c == 92) some, tt)))
-    (λ none. either is_control (nat_lt c 32) _ _ (λ low. code)
-    (λ wide. either is_control (nat_lt c 127) _ _ (λ narrow. absurd (narrow_control c control wide narrow)) (λ high. code)))
+printed_control : (c : ℕ) → c < 0x100 → NonePass is_control (escaped_control c)
+printed_control c small =
+    either is_control (c == 9) _ _ (λ tab. (refl, (refl, tt)))
+    (λ no_tab. either is_control (c == 10) _ _ (λ lf. (refl, (refl, tt)))
+    (λ no_lf. either is_control (c == 13) _ _ (λ cr. (refl, (refl, tt)))
+    (λ no_cr. either is_control (nat_lt c 128) _ _ (λ low. printed_byte c small)
+    (λ high. (refl, (refl, (refl, (refl, printed_byte c small))))))))
 
 printed_line_char : (c : ℕ) → NonePass is_control (line_char c)
-printed_line_char c = either is_control (is_control c) (escape_default c) (c ∷ []) (printed_escape c) (λ printed. (printed, tt))
+printed_line_char c =
+    either is_control (c == 92) _ _ (λ backslash. (refl, (refl, tt)))
+    (λ other. either is_control (is_control c) (escaped_control c) (c ∷ [])
+    (λ control. printed_control c (small_control c control)) (λ printed. (printed, tt)))
 
 -- no control character is left
 pub escaped_printed : (name : List ℕ) → NoCharPasses is_control (escaped_name name)

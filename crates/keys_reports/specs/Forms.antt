@@ -1,7 +1,7 @@
 -- The lines that are written of a report. Each ends in an LF.
 use Rattle.std.specs.Prelude.{◌++◌, Bool, List, [], ℕ, Option, None, Some, codes, decimal, if◌then◌else◌}
 use Rattle.keys_reports.specs.declared.report.Report.{Report}
-use Rattle.keys_reports.specs.Names.{escaped_name, json_string}
+use Rattle.keys_reports.specs.Names.{escaped_bytes, escaped_name, json_string}
 
 -- the line of a count: the estimate, and with bounds the lower and the upper one
 abbrev pub count_line : (with_bounds : Bool) → Report → List ℕ
@@ -38,19 +38,22 @@ tsv_head named =
 -- the name of a row and the tab after it, if there is a name
 abbrev pub tsv_name : Option (List ℕ) → List ℕ
 tsv_name None = []
-tsv_name (Some name) = escaped_name name ++ codes "\t"
+tsv_name (Some name) = escaped_bytes name ++ codes "\t"
 
--- the row of a report in a table
-abbrev pub tsv_row : Option (List ℕ) → Report → List ℕ
-tsv_row name r =
-    tsv_name name
-    ++ decimal r.estimate
-    ++ codes "\t" ++ decimal r.interval.lower
+-- the values of a report in a table, and the end of their row
+abbrev pub tsv_values : Report → List ℕ
+tsv_values r =
+    decimal r.estimate
+    ++ (codes "\t" ++ decimal r.interval.lower
     ++ codes "\t" ++ decimal r.interval.upper
     ++ codes "\t" ++ truth r.exact
     ++ codes "\t" ++ decimal r.retained
     ++ codes "\t" ++ decimal r.theta
-    ++ codes "\n"
+    ++ codes "\n")
+
+-- the row of a report in a table
+abbrev pub tsv_row : Option (List ℕ) → Report → List ℕ
+tsv_row name r = tsv_name name ++ tsv_values r
 
 -- the beginning of a JSON object: its brace, and the field of a name with a comma if there is a name
 abbrev pub json_head : Option (List ℕ) → List ℕ

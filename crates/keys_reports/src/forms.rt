@@ -2,10 +2,10 @@
 ghost use Rattle.std.specs.Prelude.{◌≡◌, ◌++◌, IfOk, OnOk, string_bytes};
 ghost use Rattle.std.specs.Option.{option_map};
 ghost use Rattle.keys_reports.specs.Forms.{count_line, json_fields, json_head, json_line, shown_estimate};
-ghost use Rattle.keys_reports.specs.Forms.{shown_line, tsv_head, tsv_name, tsv_row};
+ghost use Rattle.keys_reports.specs.Forms.{shown_line, tsv_head, tsv_name, tsv_row, tsv_values};
 ghost use Rattle.keys_reports.specs.Names.{escaped_name};
 
-use crate::names::{escaped_name, put_json_string};
+use crate::names::{escaped_bytes, escaped_name, put_json_string};
 use crate::report::Report;
 use std::alloc::{AllocError, Allocator};
 
@@ -75,25 +75,20 @@ pub fn tsv_head<A: Allocator>(alloc: A, named: bool) -> Result<String<A>, AllocE
 }
 
 /// The name of a row and a tab, or nothing if there is no name.
-fn row_name<A: Allocator>(alloc: A, name: Option<&str>) -> Result<String<A>, AllocError>
+fn row_name<A: Allocator>(alloc: A, name: Option<&[u8]>) -> Result<String<A>, AllocError>
     ensures { IfOk result (λ text. string_bytes text ≡ tsv_name (option_map (λ s. s.now) name.entry)) }
 {
     let Some(name) = name else {
         return Ok(String::new(alloc));
     };
-    let mut text = escaped_name(alloc, name)?;
+    let mut text = escaped_bytes(alloc, name)?;
     text.push_str("\t")?;
     Ok(text)
 }
 
-/// The row of a report in a table: its values in the order of `tsv_head`, separated by tabs, after the name if there
-/// is one. Control characters of the name are escaped, tabs too.
-pub fn tsv_row<A: Allocator>(
-    alloc: A,
-    name: Option<&str>,
-    report: Report,
-) -> Result<String<A>, AllocError>
-    ensures { IfOk result (λ text. string_bytes text ≡ tsv_row (option_map (λ s. s.now) name.entry) report) }
+/// Appends the values of a report in a table, and the end of their row.
+fn put_values<A: Allocator>(row: &mut String<A>, report: Report) -> Result<(), AllocError>
+    ensures { OnOk result (string_bytes row.new ≡ string_bytes row.old ++ tsv_values report) }
 {
     let estimate = report.estimate;
     let lower = report.interval.lower;
@@ -101,11 +96,23 @@ pub fn tsv_row<A: Allocator>(
     let exact = report.exact;
     let retained = report.retained;
     let theta = report.theta;
-    let mut row = row_name(alloc, name)?;
     write!(
         row,
         "{estimate}\t{lower}\t{upper}\t{exact}\t{retained}\t{theta}\n"
-    )?;
+    )
+}
+
+/// The row of a report in a table: its values in the order of `tsv_head`, separated by tabs, after the name if there
+/// is one, which may have any bytes (`escaped_bytes`).
+pub fn tsv_row<A: Allocator>(
+    alloc: A,
+    name: Option<&[u8]>,
+    report: Report,
+) -> Result<String<A>, AllocError>
+    ensures { IfOk result (λ text. string_bytes text ≡ tsv_row (option_map (λ s. s.now) name.entry) report) }
+{
+    let mut row = row_name(alloc, name)?;
+    put_values(&mut row, report)?;
     Ok(row)
 }
 

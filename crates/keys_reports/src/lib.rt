@@ -5,6 +5,7 @@
 #![tactic(auto)]
 
 mod forms;
+mod human;
 pub mod laws;
 mod names;
 mod part;
@@ -12,6 +13,7 @@ mod ranges;
 mod report;
 
 pub use forms::{count_line, json_line, shown_line, tsv_head, tsv_row};
+pub use human::human_line;
 pub use names::escaped_name;
 pub use part::report_of_part;
 pub use ranges::{range_json_line, range_line, range_tsv_head, range_tsv_row};

@@ -5,7 +5,6 @@ pub mod Sources
 pub mod Unions
 pub mod Hex
 pub mod Header
-pub mod SumsHeader
 pub mod Meeting
 pub mod Refusals
 pub mod Batches

@@ -25,11 +25,11 @@ pub mod laws;
 mod pieces;
 mod sketching;
 mod sources;
-mod sums_header;
 mod uniting;
 
 pub use batches::{Batch, SketchUnion};
-pub use header::{Flaw, entry_count, flaw_of, image_length};
+pub use core_images::Flaw as ImageFlaw;
+pub use header::{Flaw, entry_count, flaw_of, image_length, sums_count, sums_flaw_of, sums_length};
 pub use hex::{hex_line, put_byte, read_hex};
 pub use image_union::{ImageUnion, add_images};
 pub use images::{difference, image_of, intersection, read_image};
@@ -38,5 +38,4 @@ pub use sketching::{
     ReadError, Watch, add_lines, new_sketch, read_failure, sketch_lines, trim_and_compact,
 };
 pub use sources::{BLOCK, Sources, TextReader, Texts, add_sources, sketch_sources};
-pub use sums_header::{sums_count, sums_flaw_of, sums_length};
 pub use uniting::{United, image_of_texts, unite_images, united_image, views_of};

@@ -1,6 +1,6 @@
 -- What a sketch of sums has after one line more, in folds, and what it returns after a trim.
 use Rattle.std.proofs.Common.{◌≡◌, ℕ, ◌+◌, ◌^◌, ◌≤◌, Bool, true, false, cond, eqb, List, [], ◌∷◌, ◌++◌, length, Some, None, Result, Ok, Err, is_none, inl, inr, refl, sym, ap, ◌∙◌, arith}
-use Rattle.std.specs.Prelude.{◌==◌, nat_lt, IfOk, IfErr, OnOk}
+use Rattle.std.specs.Prelude.{◌==◌, nat_lt, min, unwrap_or, is_some, Option, IfOk, IfErr, OnOk}
 use Rattle.std.specs.Option.{option_map_or}
 use Rattle.std.proofs.lemmas.Bool.Decides.{nat_tests}
 use Rattle.std.proofs.lemmas.List.{map-append}
@@ -30,9 +30,12 @@ use Rattle.core_table.specs.HashTable.{MapTable, after_insertion, trimmed_table}
 use Rattle.keys_lines.specs.Keys.{line_hash}
 use Rattle.keys_lines.specs.declared.key.Hashing.{Hashing}
 use Rattle.keys_sketches.proofs.Worth.{ordered_answer}
-use Rattle.keys_sums.specs.Sums.{folds_of_lines, sum_at, sum_steps, sums_of_lines, sketch_of_sums, HasSummed}
+use Rattle.keys_sums.specs.Amounts.{added_by, amount_in}
+use Rattle.keys_sums.specs.Sums.{folds_of_lines, sum_at, sum_steps, sums_of_lines, sketch_of_sums, total_added, GREATEST_TOTAL, Summed, HasSummed, HasAdded}
+use Rattle.keys_sums.specs.declared.addends.Amount.{Amount}
 use Rattle.keys_sums.specs.Refusals.{IsAddRefusal, IsPast}
 use Rattle.keys_sums.proofs.Amounts.{sum_append}
+use Rattle.keys_sums.proofs.Pieces.{numbers_more}
 use Rattle.keys_sums.proofs.Exact.{folds_keep, not_none, retained_number, trimmed_exact}
 
 has_one : {T : Type 0} (xs : List T) (x : T) → (length (xs ++ x ∷ []) == 0) ≡ false
@@ -146,3 +149,26 @@ module _ (hashing : Hashing) (amount : List ℕ → ℕ) (lg_k : ℕ) where
       ordered_answer tuple_key (sketch_value t) t.map.seed_hash c answer
       ∙ ap (λ (v : Sketch (TupleEntry ℕ)). ordered_sketch v t.map.seed_hash) (trimmed_value lines s t has same after)
       ∙ ap (ordered_sketch (sums_of_lines hashing amount lg_k lines)) (ap (λ (m : MapTable (TupleEntry ℕ)). m.seed_hash) after ∙ has.same_seed)) is
+
+-- ---- the total
+
+total_more : (amount : List ℕ → ℕ) (lines : List (List ℕ)) (line : List ℕ) → total_added amount (lines ++ line ∷ []) ≡ total_added amount lines + amount line
+total_more amount [] line = omega arith
+total_more amount (first ∷ lines) line = omega (arith, total_more amount lines line)
+
+capped_more : (total more cap : ℕ) → min (min total cap + more) cap ≡ min (total + more) cap
+capped_more total more cap = grind (arith, nat_tests)
+
+-- a line more was added, to the sum of its key and to the total
+pub more_added : (hashing : Hashing) (amount : Amount) (lg_k : ℕ) (lines : List (List ℕ)) (line : List ℕ) (s t : Summed) (hash value : ℕ) → hash ≡ line_hash hashing line → amount_in amount line ≡ Some value
+    → HasAdded hashing amount lg_k lines s → t.sketch.map ≡ after_insertion tuple_key hash (adds hash value) s.sketch.map → t.sketch.empty ≡ false → upsert_refusal tuple_key hash (adds hash value) s.sketch.map.kept ≡ None
+    → t.total ≡ min (s.total + value) GREATEST_TOTAL → HasAdded hashing amount lg_k (lines ++ line ∷ []) t
+more_added hashing amount lg_k lines line s t hash value hashed valued has after some allowed counted =
+    let adds_value : added_by amount line ≡ value = ap (λ (o : Option ℕ). unwrap_or o 0) valued in
+    record {
+      summed = more_summed hashing (added_by amount) lg_k lines line s.sketch t.sketch hash value hashed adds_value has.summed after some allowed;
+      numbers = numbers_more amount lines line has.numbers (ap (λ (o : Option ℕ). is_some o) valued);
+      total =
+          counted ∙ ap (λ n. min (n + value) GREATEST_TOTAL) has.total ∙ capped_more (total_added (added_by amount) lines) value GREATEST_TOTAL
+          ∙ ap (λ n. min n GREATEST_TOTAL) (ap (λ n. total_added (added_by amount) lines + n) (sym adds_value) ∙ sym (total_more (added_by amount) lines line));
+    }

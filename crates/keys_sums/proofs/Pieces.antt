@@ -6,15 +6,13 @@ use Rattle.std.proofs.lemmas.List.{length-append}
 use Rattle.std.specs.Io.KnownBytes.{Consumes}
 use Rattle.sketch_base.specs.declared.error.ErrorKind.{ErrorKind}
 use Rattle.sketch_base.specs.declared.error.ErrorKind.TheVariants.{Policy}
-use Rattle.core_slots.specs.declared.entry.TupleEntry.{TupleEntry}
-use Rattle.core_state.specs.Updatable.{Updatable}
 use Rattle.keys_sketches.specs.Refusals.{HasFault}
 use Rattle.keys_sketches.specs.Sources.{IsFirst, GivesNext, Continues}
 use Rattle.keys_lines.specs.Lines.{lines_of, lines_of_all, lines_after, Lacks}
 use Rattle.keys_lines.specs.declared.key.Hashing.{Hashing}
 use Rattle.keys_lines.proofs.Texts.{lines_after-line, lines_after-lacking, lines_whole}
 use Rattle.keys_sums.specs.Amounts.{amount_in, added_by, AreNumbers, IsOpenAddend}
-use Rattle.keys_sums.specs.Sums.{sum_at, HasAdded}
+use Rattle.keys_sums.specs.Sums.{sum_at, HasAdded, Summed}
 use Rattle.keys_sums.specs.Reading.{Ends, HasTaken}
 use Rattle.keys_sums.specs.Refusals.{count_after, LacksNumber, LacksNumberIn, LacksNumberAt, LacksNumberOf, IsPast, IsByPolicy, IsPastIn}
 use Rattle.keys_sums.proofs.Amounts.{sum_append}
@@ -131,7 +129,7 @@ past_policy hashing amount lines kind (NotANumber number) policy past = tt
 
 module _ (hashing : Hashing) (amount : Amount) where
   -- nothing was read yet
-  pub taken_nothing : (front : List ℕ) (s : Updatable (TupleEntry ℕ)) (last : OpenAddend) (count : ℕ) → IsOpenAddend hashing amount front last → HasTaken hashing amount front [] s s last count count
+  pub taken_nothing : (front : List ℕ) (s : Summed) (last : OpenAddend) (count : ℕ) → IsOpenAddend hashing amount front last → HasTaken hashing amount front [] s s last count count
   taken_nothing front s last count is = record {
     ended = [];
     left = front;
@@ -142,7 +140,7 @@ module _ (hashing : Hashing) (amount : Amount) where
   }
 
   -- one line more ended
-  pub taken_line : (front taken line : List ℕ) (r s t : Updatable (TupleEntry ℕ)) (last next : OpenAddend) (count counted more : ℕ) (was : HasTaken hashing amount front taken r s last count counted) → Lacks 10 line →
+  pub taken_line : (front taken line : List ℕ) (r s t : Summed) (last next : OpenAddend) (count counted more : ℕ) (was : HasTaken hashing amount front taken r s last count counted) → Lacks 10 line →
       IsOpenAddend hashing amount [] next → more ≡ min (counted + 1) (2 ^ 64 - 1) →
       ((lg_k : ℕ) (lines : List (List ℕ)) → HasAdded hashing amount lg_k lines s → HasAdded hashing amount lg_k (lines ++ (was.left ++ line) ∷ []) t) → HasTaken hashing amount front (taken ++ (line ++ 10 ∷ [])) r t next count more
   taken_line front taken line r s t last next count counted more was lacks is one step = record {
@@ -156,7 +154,7 @@ module _ (hashing : Hashing) (amount : Amount) where
   }
 
   -- the rest of a block, in which no line ends
-  pub taken_rest : (front taken rest : List ℕ) (r s : Updatable (TupleEntry ℕ)) (last next : OpenAddend) (count counted : ℕ) (was : HasTaken hashing amount front taken r s last count counted) → Lacks 10 rest →
+  pub taken_rest : (front taken rest : List ℕ) (r s : Summed) (last next : OpenAddend) (count counted : ℕ) (was : HasTaken hashing amount front taken r s last count counted) → Lacks 10 rest →
       IsOpenAddend hashing amount (was.left ++ rest) next → HasTaken hashing amount front (taken ++ rest) r s next count counted
   taken_rest front taken rest r s last next count counted was lacks is = record {
     ended = was.ended;
@@ -168,7 +166,7 @@ module _ (hashing : Hashing) (amount : Amount) where
   }
 
   -- one block more was read
-  pub taken_both : (front piece block : List ℕ) (r s t : Updatable (TupleEntry ℕ)) (last next : OpenAddend) (count counted more : ℕ) (first : HasTaken hashing amount front piece r s last count counted) →
+  pub taken_both : (front piece block : List ℕ) (r s t : Summed) (last next : OpenAddend) (count counted more : ℕ) (first : HasTaken hashing amount front piece r s last count counted) →
       HasTaken hashing amount first.left block s t next counted more → HasTaken hashing amount front (piece ++ block) r t next count more
   taken_both front piece block r s t last next count counted more first second = record {
     ended = first.ended ++ second.ended;
@@ -181,11 +179,11 @@ module _ (hashing : Hashing) (amount : Amount) where
         subst (λ (ls : List (List ℕ)). HasAdded hashing amount lg_k ls t) (append_assoc lines first.ended second.ended) (second.added lg_k (lines ++ first.ended) (first.added lg_k lines has));
   }
 
-  whole_text : (text : List ℕ) (r s : Updatable (TupleEntry ℕ)) (last : OpenAddend) (count counted : ℕ) (all : HasTaken hashing amount [] text r s last count counted) → all.ended ++ lines_after all.left [] ≡ lines_of text
+  whole_text : (text : List ℕ) (r s : Summed) (last : OpenAddend) (count counted : ℕ) (all : HasTaken hashing amount [] text r s last count counted) → all.ended ++ lines_after all.left [] ≡ lines_of text
   whole_text text r s last count counted all = sym (all.ends []) ∙ ap (lines_after []) (append-nil text) ∙ lines_whole text
 
   -- at the end of a text
-  pub taken_all : (lg_k : ℕ) (lines : List (List ℕ)) (text : List ℕ) (r s t : Updatable (TupleEntry ℕ)) (last : OpenAddend) (count counted : ℕ) (all : HasTaken hashing amount [] text r s last count counted) →
+  pub taken_all : (lg_k : ℕ) (lines : List (List ℕ)) (text : List ℕ) (r s t : Summed) (last : OpenAddend) (count counted : ℕ) (all : HasTaken hashing amount [] text r s last count counted) →
       HasAdded hashing amount lg_k ((lines ++ all.ended) ++ lines_after all.left []) t → HasAdded hashing amount lg_k (lines ++ lines_of text) t
   taken_all lg_k lines text r s t last count counted all has =
       subst (λ (ls : List (List ℕ)). HasAdded hashing amount lg_k ls t) (append_assoc lines all.ended (lines_after all.left []) ∙ ap (λ ls. lines ++ ls) (whole_text text r s last count counted all)) has
@@ -193,12 +191,12 @@ module _ (hashing : Hashing) (amount : Amount) where
   -- ---- a line that has no number
 
   -- .. is the last of a text
-  pub lacking_end : (text : List ℕ) (u : SumError) (r s : Updatable (TupleEntry ℕ)) (last : OpenAddend) (counted : ℕ) (all : HasTaken hashing amount [] text r s last 0 counted) → LacksNumberIn amount counted (lines_after all.left []) u → LacksNumberAt amount text u
+  pub lacking_end : (text : List ℕ) (u : SumError) (r s : Summed) (last : OpenAddend) (counted : ℕ) (all : HasTaken hashing amount [] text r s last 0 counted) → LacksNumberIn amount counted (lines_after all.left []) u → LacksNumberAt amount text u
   lacking_end text u r s last counted all lacking =
       lacking_at amount text u (lacking_behind amount 0 counted all.ended (lines_after all.left []) (lines_of text) u (whole_text text r s last 0 counted all) all.counts lacking)
 
   -- the lines around one that a block ends
-  line_parted : (front taken line others more block : List ℕ) (r s : Updatable (TupleEntry ℕ)) (last : OpenAddend) (count counted : ℕ) (was : HasTaken hashing amount front taken r s last count counted) → Lacks 10 line → block ≡ taken ++ (line ++ 10 ∷ others) →
+  line_parted : (front taken line others more block : List ℕ) (r s : Summed) (last : OpenAddend) (count counted : ℕ) (was : HasTaken hashing amount front taken r s last count counted) → Lacks 10 line → block ≡ taken ++ (line ++ 10 ∷ others) →
       lines_after front (block ++ more) ≡ was.ended ++ (was.left ++ line) ∷ lines_after [] (others ++ more)
   line_parted front taken line others more block r s last count counted was lacks parted =
       ap (λ (bs : List ℕ). lines_after front (bs ++ more)) parted
@@ -209,7 +207,7 @@ module _ (hashing : Hashing) (amount : Amount) where
       ∙ append_assoc was.ended ((was.left ++ line) ∷ []) (lines_after [] (others ++ more))
 
   -- .. is one of the lines that a block ends
-  pub lacking_line : (front taken line others more block : List ℕ) (count counted : ℕ) (u : SumError) (r s : Updatable (TupleEntry ℕ)) (last : OpenAddend) (was : HasTaken hashing amount front taken r s last count counted) → Lacks 10 line →
+  pub lacking_line : (front taken line others more block : List ℕ) (count counted : ℕ) (u : SumError) (r s : Summed) (last : OpenAddend) (was : HasTaken hashing amount front taken r s last count counted) → Lacks 10 line →
       block ≡ taken ++ (line ++ 10 ∷ others) → LacksNumber amount (was.left ++ line) counted u → LacksNumberIn amount count (lines_after front (block ++ more)) u
   lacking_line front taken line others more block count counted (NotANumber number) r s last was lacks parted lacking = record {
     before = was.ended;
@@ -224,13 +222,13 @@ module _ (hashing : Hashing) (amount : Amount) where
   lacking_line front taken line others more block count counted (PastGreatest number) r s last was lacks parted lacking = tt
 
   -- the lines of a text, by those of its first bytes
-  text_parted : (text more read block : List ℕ) (r s : Updatable (TupleEntry ℕ)) (last : OpenAddend) (count counted : ℕ) (was : HasTaken hashing amount [] read r s last count counted) → text ≡ (read ++ block) ++ more →
+  text_parted : (text more read block : List ℕ) (r s : Summed) (last : OpenAddend) (count counted : ℕ) (was : HasTaken hashing amount [] read r s last count counted) → text ≡ (read ++ block) ++ more →
       was.ended ++ lines_after was.left (block ++ more) ≡ lines_of text
   text_parted text more read block r s last count counted was parted =
       sym (was.ends (block ++ more)) ∙ ap (lines_after []) (sym (append_assoc read block more) ∙ sym parted) ∙ lines_whole text
 
   -- .. is one of the lines of a text whose first bytes are read
-  pub lacking_text : (o new : Option (List ℕ)) (read block : List ℕ) (u : SumError) (r s : Updatable (TupleEntry ℕ)) (last : OpenAddend) (counted : ℕ) (was : HasTaken hashing amount [] read r s last 0 counted) → Consumes o new (read ++ block) →
+  pub lacking_text : (o new : Option (List ℕ)) (read block : List ℕ) (u : SumError) (r s : Summed) (last : OpenAddend) (counted : ℕ) (was : HasTaken hashing amount [] read r s last 0 counted) → Consumes o new (read ++ block) →
       ((more : List ℕ) → LacksNumberIn amount counted (lines_after was.left (block ++ more)) u) → IfSome o (λ text. LacksNumberAt amount text u)
   lacking_text None new read block u r s last counted was consumes lacking = tt
   lacking_text (Some text) None read block u r s last counted was consumes lacking = absurd consumes
@@ -241,7 +239,7 @@ module _ (hashing : Hashing) (amount : Amount) where
   -- ---- a sum of 2^64 or more
 
   -- .. with a line that a block ends
-  pub past_block : (lines : List (List ℕ)) (front taken line others more block : List ℕ) (u : SumError) (r s : Updatable (TupleEntry ℕ)) (last : OpenAddend) (count counted : ℕ) (was : HasTaken hashing amount front taken r s last count counted) → Lacks 10 line →
+  pub past_block : (lines : List (List ℕ)) (front taken line others more block : List ℕ) (u : SumError) (r s : Summed) (last : OpenAddend) (count counted : ℕ) (was : HasTaken hashing amount front taken r s last count counted) → Lacks 10 line →
       block ≡ taken ++ (line ++ 10 ∷ others) → IsPastIn hashing amount ((lines ++ was.ended) ++ (was.left ++ line) ∷ []) u → IsPastIn hashing amount (lines ++ lines_after front (block ++ more)) u
   past_block lines front taken line others more block u r s last count counted was lacks parted past =
       let back : List (List ℕ) = lines_after [] (others ++ more) in
@@ -250,13 +248,13 @@ module _ (hashing : Hashing) (amount : Amount) where
       past
 
   -- .. with the last line of a text
-  pub past_end : (lines : List (List ℕ)) (text : List ℕ) (u : SumError) (r s : Updatable (TupleEntry ℕ)) (last : OpenAddend) (count counted : ℕ) (all : HasTaken hashing amount [] text r s last count counted) →
+  pub past_end : (lines : List (List ℕ)) (text : List ℕ) (u : SumError) (r s : Summed) (last : OpenAddend) (count counted : ℕ) (all : HasTaken hashing amount [] text r s last count counted) →
       IsPastIn hashing amount ((lines ++ all.ended) ++ lines_after all.left []) u → IsPastIn hashing amount (lines ++ lines_of text) u
   past_end lines text u r s last count counted all past =
       subst (λ (ls : List (List ℕ)). IsPastIn hashing amount ls u) (append_assoc lines all.ended (lines_after all.left []) ∙ ap (λ ls. lines ++ ls) (whole_text text r s last count counted all)) past
 
   -- .. with a line of a text whose first bytes are read
-  pub past_text : (lines : List (List ℕ)) (o new : Option (List ℕ)) (read block : List ℕ) (u : SumError) (r s : Updatable (TupleEntry ℕ)) (last : OpenAddend) (count counted : ℕ) (was : HasTaken hashing amount [] read r s last count counted) → Consumes o new (read ++ block) →
+  pub past_text : (lines : List (List ℕ)) (o new : Option (List ℕ)) (read block : List ℕ) (u : SumError) (r s : Summed) (last : OpenAddend) (count counted : ℕ) (was : HasTaken hashing amount [] read r s last count counted) → Consumes o new (read ++ block) →
       ((more : List ℕ) → IsPastIn hashing amount ((lines ++ was.ended) ++ lines_after was.left (block ++ more)) u) → IfSome o (λ text. IsPastIn hashing amount (lines ++ lines_of text) u)
   past_text lines None new read block u r s last count counted was consumes past = tt
   past_text lines (Some text) None read block u r s last count counted was consumes past = absurd consumes
@@ -265,7 +263,7 @@ module _ (hashing : Hashing) (amount : Amount) where
       (append_assoc lines was.ended (lines_after was.left (block ++ more)) ∙ ap (λ ls. lines ++ ls) (text_parted text more read block r s last count counted was consumes)) (past more)
 
   -- .. with a line of the next text
-  pub past_next : {S : Type 0} (lg_k : ℕ) (remaining : S → Option (List ℕ)) (old now new : Option (List (List ℕ))) (o : Option S) (source : S) (u : SumError) (s : Updatable (TupleEntry ℕ)) →
+  pub past_next : {S : Type 0} (lg_k : ℕ) (remaining : S → Option (List ℕ)) (old now new : Option (List (List ℕ))) (o : Option S) (source : S) (u : SumError) (s : Summed) →
       Continues old now (λ taken. HasAdded hashing amount lg_k (lines_of_all taken) s) → GivesNext remaining now new o → o ≡ Some source →
       ((lines : List (List ℕ)) → HasAdded hashing amount lg_k lines s → IfSome (remaining source) (λ text. IsPastIn hashing amount (lines ++ lines_of text) u)) → IfSome old (λ all. IsPastIn hashing amount (lines_of_all all) u)
   past_next lg_k remaining None now new o source u s so_far gives is past = tt

@@ -1,5 +1,5 @@
 -- Images of sums: those of tuple sketches whose summaries are whole numbers of 64 bits.
-use Rattle.std.specs.Prelude.{ℕ, ◌≡◌, ◌≤◌, ⊤, List, [], ◌∷◌, length, take, Some}
+use Rattle.std.specs.Prelude.{ℕ, ◌≡◌, ◌≤◌, ⊤, List, [], ◌∷◌}
 use Rattle.std.specs.Int.{w64, to_le_bytes}
 use Rattle.sketch_base.specs.Seed.{seed_hash}
 use Rattle.core_compact.specs.CompactState.{Compact}
@@ -7,9 +7,8 @@ use Rattle.core_images.specs.Summary.{SpellsNumber}
 use Rattle.core_slots.specs.declared.entry.TupleEntry.{TupleEntry}
 use Rattle.keys_lines.specs.Lines.{lines_of}
 use Rattle.keys_lines.specs.declared.key.Hashing.{Hashing}
-use Rattle.tuple_sketches.specs.Image.{Reads, IsReadable, written}
+use Rattle.tuple_sketches.specs.Image.{Reads, IsReadable, BeginsWith, written}
 use Rattle.keys_sketches.specs.Shards.{AreReadBy}
-use Rattle.keys_sketches.specs.SumsHeader.{sums_length}
 use Rattle.keys_sums.specs.Sums.{sketch_of_sums}
 
 -- the image of a sketch of sums: behind each hash its sum's eight bytes, the lowest first
@@ -25,11 +24,8 @@ abbrev pub AreReadableSums : (bytes : List ℕ) → (h : ℕ) → Type 0
 AreReadableSums bytes h = IsReadable (SpellsNumber 8) bytes h
 
 -- the bytes begin with an image of the length by its preamble, which alone is read as the sketch of sums
-pub record BeginsWithSums (bytes : List ℕ) (h : ℕ) (s : Compact (TupleEntry ℕ)) : Type 0 where
-  pub size : ℕ
-  pub size_is : sums_length bytes ≡ Some size
-  pub within : size ≤ length bytes
-  pub alone : ReadsSums (take size bytes) h s
+abbrev pub BeginsWithSums : (bytes : List ℕ) → (h : ℕ) → Compact (TupleEntry ℕ) → Type 0
+BeginsWithSums bytes h s = (size : ℕ) × BeginsWith (SpellsNumber 8) 16 bytes h size s
 
 -- the bytes are read as the sketch of sums, under this seed
 abbrev pub ReadsSumsUnder : (seed : ℕ) → List ℕ → Compact (TupleEntry ℕ) → Type 0

@@ -2,11 +2,9 @@
 use Rattle.std.specs.Prelude.{ℕ, ◌≡◌, List, ◌++◌, length, Option, IfSome, Result, OnOk, IfErr}
 use Rattle.keys_lines.specs.Lines.{lines_after, lines_of}
 use Rattle.keys_lines.specs.declared.key.Hashing.{Hashing}
-use Rattle.core_slots.specs.declared.entry.TupleEntry.{TupleEntry}
-use Rattle.core_state.specs.Updatable.{Updatable}
 use Rattle.keys_sums.specs.Amounts.{IsOpenAddend}
 use Rattle.keys_sums.specs.Refusals.{count_after, IsPastIn}
-use Rattle.keys_sums.specs.Sums.{HasAdded}
+use Rattle.keys_sums.specs.Sums.{HasAdded, Summed}
 use Rattle.keys_sums.specs.declared.addends.Amount.{Amount}
 use Rattle.keys_sums.specs.declared.addends.OpenAddend.{OpenAddend}
 use Rattle.keys_sums.specs.declared.summing.SumError.{SumError}
@@ -15,10 +13,10 @@ use Rattle.keys_sums.specs.declared.summing.SumError.{SumError}
 abbrev pub Ends : (front piece : List ℕ) → (ended : List (List ℕ)) → (left : List ℕ) → Type 0
 Ends front piece ended left = (more : List ℕ) → lines_after front (piece ++ more) ≡ ended ++ lines_after left more
 
--- a piece of a text was read: the lines that ended are added, after those that the sketch had before, and counted, and the open
+-- a piece of a text was read: the lines that ended are added, after those before, and counted, and the open
 -- line has the bytes behind them
 pub record HasTaken (hashing : Hashing) (amount : Amount) (front piece : List ℕ)
-    (old new : Updatable (TupleEntry ℕ)) (last : OpenAddend) (count counted : ℕ) : Type 0 where
+    (old new : Summed) (last : OpenAddend) (count counted : ℕ) : Type 0 where
   pub ended : List (List ℕ)
   pub left : List ℕ
   pub ends : Ends front piece ended left
@@ -31,9 +29,9 @@ abbrev pub AddsLines : {T : Type 0}
     → Hashing
     → Amount
     → (more : List (List ℕ))
-    → (old : Updatable (TupleEntry ℕ))
+    → (old : Summed)
     → Result T SumError
-    → (new : Updatable (TupleEntry ℕ))
+    → (new : Summed)
     → Type 0
 AddsLines hashing amount more old result new =
     (lg_k : ℕ) (lines : List (List ℕ))
@@ -45,9 +43,9 @@ abbrev pub AddsText : {T : Type 0}
     → Hashing
     → Amount
     → Option (List ℕ)
-    → (old : Updatable (TupleEntry ℕ))
+    → (old : Summed)
     → Result T SumError
-    → (new : Updatable (TupleEntry ℕ))
+    → (new : Summed)
     → Type 0
 AddsText hashing amount known old result new =
     (lg_k : ℕ) (lines : List (List ℕ))
@@ -55,14 +53,14 @@ AddsText hashing amount known old result new =
     → IfSome known (λ text. OnOk result (HasAdded hashing amount lg_k (lines ++ lines_of text) new))
 
 -- a call reports a sum to be 2^64 or more only if one of these lines and those that a sketch has is
-abbrev pub ReportsPast : {T : Type 0} → Hashing → Amount → (more : List (List ℕ)) → (old : Updatable (TupleEntry ℕ)) → Result T SumError → Type 0
+abbrev pub ReportsPast : {T : Type 0} → Hashing → Amount → (more : List (List ℕ)) → (old : Summed) → Result T SumError → Type 0
 ReportsPast hashing amount more old result =
     (lg_k : ℕ) (lines : List (List ℕ))
     → HasAdded hashing amount lg_k lines old
     → IfErr result (IsPastIn hashing amount (lines ++ more))
 
 -- .. of the lines of a text, if it is known
-abbrev pub ReportsPastText : {T : Type 0} → Hashing → Amount → Option (List ℕ) → (old : Updatable (TupleEntry ℕ)) → Result T SumError → Type 0
+abbrev pub ReportsPastText : {T : Type 0} → Hashing → Amount → Option (List ℕ) → (old : Summed) → Result T SumError → Type 0
 ReportsPastText hashing amount known old result =
     (lg_k : ℕ) (lines : List (List ℕ))
     → HasAdded hashing amount lg_k lines old

@@ -1,5 +1,5 @@
 -- The sums of lines, by the hashes of their keys.
-use Rattle.std.specs.Prelude.{ℕ, ◌≡◌, ◌==◌, ◌+◌, ◌^◌, List, [], ◌∷◌, length, map, if◌then◌else◌}
+use Rattle.std.specs.Prelude.{ℕ, ◌≡◌, ◌==◌, ◌+◌, ◌-◌, ◌^◌, List, [], ◌∷◌, length, map, min, if◌then◌else◌}
 use Rattle.sketch_base.specs.Seed.{seed_hash}
 use Rattle.core_compact.specs.CompactState.{Compact, ordered_sketch}
 use Rattle.core_laws.specs.Cuts.{Retained, none_below}
@@ -64,7 +64,22 @@ pub record HasSummed (hashing : Hashing) (amount : List ℕ → ℕ) (lg_k : ℕ
   pub same_seed : s.map.seed_hash ≡ seed_hash hashing.seed
   pub emptiness : s.empty ≡ (length lines == 0)
 
--- .. and each of them added a number
-pub record HasAdded (hashing : Hashing) (amount : Amount) (lg_k : ℕ) (lines : List (List ℕ)) (s : Updatable (TupleEntry ℕ)) : Type 0 where
-  pub summed : HasSummed hashing (added_by amount) lg_k lines s
+-- the total of what lines add
+abbrev pub total_added : (amount : List ℕ → ℕ) → List (List ℕ) → ℕ
+total_added amount [] = 0
+total_added amount (line ∷ lines) = amount line + total_added amount lines
+
+-- the greatest total that is counted: no text of fewer than 2^64 lines adds more
+abbrev pub GREATEST_TOTAL : ℕ
+GREATEST_TOTAL = 2 ^ 128 - 1
+
+-- the sums of keys in a sketch, and the total of what lines add
+pub record Summed : Type 0 where
+  pub sketch : Updatable (TupleEntry ℕ)
+  pub total : ℕ
+
+-- lines were added, and no others: each added a number, none was refused, and the total is theirs
+pub record HasAdded (hashing : Hashing) (amount : Amount) (lg_k : ℕ) (lines : List (List ℕ)) (s : Summed) : Type 0 where
+  pub summed : HasSummed hashing (added_by amount) lg_k lines s.sketch
   pub numbers : AreNumbers amount lines
+  pub total : s.total ≡ min (total_added (added_by amount) lines) GREATEST_TOTAL

@@ -4,8 +4,7 @@ ghost use Rattle.std.specs.Prelude.{◌≡◌, ◌≤◌, ◌<◌, ◌^◌, ℕ,
 ghost use Rattle.core_compact.specs.CompactState.{Compact};
 ghost use Rattle.core_laws.specs.declared.TheConstants.{MAX_THETA};
 ghost use Rattle.core_slots.specs.declared.entry.TupleEntry.{TupleEntry};
-ghost use Rattle.keys_sketches.specs.Header.{MayBeRead};
-ghost use Rattle.keys_sketches.specs.SumsHeader.{sums_count, sums_flaw_of};
+ghost use Rattle.keys_sketches.specs.Header.{MayBeRead, sums_count, sums_flaw_of};
 ghost use Rattle.keys_lines.specs.declared.key.Hashing.{Hashing};
 ghost use Rattle.totals.specs.Totals.{sum_of, total_of};
 ghost use Rattle.keys_sums.specs.Bins.{is_in, IsInOneBin, HasNumber};

@@ -13,7 +13,8 @@
 //! ```
 //! let hashing = Hashing { key: Key::Line, seed: 9001 };
 //! let visits = sum_sources(alloc, hashing, Amount::One, 12, &mut sources)?;
-//! let from_five_to_eight = count_in(&visits, 3);
+//! let from_five_to_eight = count_in(&visits.sketch, 3);
+//! let lines = visits.total;
 //! ```
 #![tactic(auto)]
 
@@ -32,5 +33,5 @@ pub use bins::{BINS, count_in, greatest_of, greatest_sum, least_of};
 pub use images::{read_sums, sums_image};
 pub use operands::all_sums;
 pub use sources::sum_sources;
-pub use summing::{SumError, SumSketch, add_lines, new_sketch, trim_and_compact};
+pub use summing::{SumError, SumSketch, Summation, SumsOfLines, add_lines};
 pub use uniting::{UnionOfSums, union_of_sums, unite_sums};

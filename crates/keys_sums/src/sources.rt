@@ -1,55 +1,54 @@
 //! Sums of the lines of texts, each with its own reader.
-ghost use Rattle.std.specs.Prelude.{◌≡◌, ℕ, [], IfOk, IfErr, OnOk, IfSome, None};
+ghost use Rattle.std.specs.Prelude.{◌≡◌, ℕ, [], min, IfOk, IfErr, OnOk, IfSome, None};
 ghost use Rattle.core_laws.specs.Settings.{settings_refusal};
 ghost use Rattle.core_laws.specs.declared.TheConstants.{MAX_THETA};
 ghost use Rattle.keys_lines.specs.Lines.{lines_of_all};
-ghost use Rattle.keys_sums.specs.Sums.{HasAdded, sketch_of_sums};
+ghost use Rattle.keys_sums.specs.Sums.{GREATEST_TOTAL, HasAdded, sketch_of_sums, total_added};
 ghost use Rattle.keys_sums.specs.Amounts.{added_by, AreNumbers};
 ghost use Rattle.keys_sums.specs.Reading.{AddsText, ReportsPastText};
 ghost use Rattle.keys_sums.specs.Refusals.{FailsIf, IsPastIn, LacksNumberAt, LacksNumberOf, RefusesSums};
 
 use crate::addends::Amount;
-use crate::summing::{SumError, SumSketch, add_lines, new_sketch, trim_and_compact};
+use crate::summing::{SumError, Summation, SumsOfLines, add_lines};
 use keys_lines::Hashing;
 use keys_sketches::{BLOCK, Sources, TextReader};
 use sketch_base::Error;
 use std::alloc::{AllocError, Allocator};
-use tuple_sketches::CompactTupleSketch;
 
 /// Adds what each line of one text adds.
 fn add_source<A: Allocator + Clone, B: Allocator, R: TextReader>(
-    sketch: &mut SumSketch<A>,
+    summation: &mut Summation<A>,
     alloc: B,
     hashing: Hashing,
     amount: Amount,
     reader: &mut R,
 ) -> Result<(), SumError>
-    ensures added { AddsText hashing amount (R.remaining reader.old) sketch.old.state result sketch.new.state }
+    ensures added { AddsText hashing amount (R.remaining reader.old) summation.old result summation.new }
     ensures numbered { IfSome (R.remaining reader.old) (λ text. IfErr result (LacksNumberAt amount text)) }
-    ensures past { ReportsPastText hashing amount (R.remaining reader.old) sketch.old.state result }
+    ensures past { ReportsPastText hashing amount (R.remaining reader.old) summation.old result }
     ensures refused { RefusesSums amount result None }
     ensures fallible { IfErr result (FailsIf R.may_fail) }
 {
     let mut block = vec![in alloc; 0u8; BLOCK]?;
-    add_lines(sketch, hashing, amount, reader, &mut block)
+    add_lines(summation, hashing, amount, reader, &mut block)
 }
 
 /// Adds what each line of all texts adds. Each text is cut into lines by itself: a last line without an LF isn't
 /// joined to the next text.
 fn add_sources<A: Allocator + Clone, B: Allocator + Clone + Drop, S: Sources>(
-    sketch: &mut SumSketch<A>,
+    summation: &mut Summation<A>,
     alloc: B,
     hashing: Hashing,
     amount: Amount,
     sources: &mut S,
 ) -> Result<(), SumError>
     ensures added { (lg_k : ℕ)
-        → HasAdded hashing amount lg_k [] sketch.old.state
+        → HasAdded hashing amount lg_k [] summation.old
         → IfSome (S.texts sources.old) (λ texts.
-        OnOk result (HasAdded hashing amount lg_k (lines_of_all texts) sketch.new.state)) }
+        OnOk result (HasAdded hashing amount lg_k (lines_of_all texts) summation.new)) }
     ensures numbered { IfSome (S.texts sources.old) (λ texts. IfErr result (LacksNumberOf amount texts)) }
     ensures past { (lg_k : ℕ)
-        → HasAdded hashing amount lg_k [] sketch.old.state
+        → HasAdded hashing amount lg_k [] summation.old
         → IfSome (S.texts sources.old) (λ texts. IfErr result (IsPastIn hashing amount (lines_of_all texts))) }
     ensures refused { RefusesSums amount result None }
     ensures fallible { IfErr result (FailsIf S.may_fail) }
@@ -57,7 +56,7 @@ fn add_sources<A: Allocator + Clone, B: Allocator + Clone + Drop, S: Sources>(
     for _ in 0..u64::MAX {
         match sources.next_source() {
             Ok(Some(mut source)) => {
-                add_source(sketch, alloc.clone()?, hashing, amount, &mut source)?;
+                add_source(summation, alloc.clone()?, hashing, amount, &mut source)?;
             }
             Ok(None) => return Ok(()),
             Err(error) => {
@@ -71,8 +70,9 @@ fn add_sources<A: Allocator + Clone, B: Allocator + Clone + Drop, S: Sources>(
     Err(SumError::Refused(Error::from(AllocError)))
 }
 
-/// The sketch of the lines of all texts, in which each retained hash has the sum of what its lines add, in all texts.
-/// Each text is cut into lines by itself. If it is returned, each line of all texts adds a number.
+/// The sketch of the lines of all texts, in which each retained hash has the sum of what its lines add, in all texts,
+/// and the total of what all lines add, which is exact whatever the sketch retains. Each text is cut into lines by
+/// itself. If it is returned, each line of all texts adds a number.
 ///
 /// Refused with `InvalidArgument` only for an `lg_k` that isn't from 4 to 26 or a seed whose seed hash is 0, and with
 /// `OutOfMemory`. A line that would make a sum 2^64 or more, or that adds no number, is an error that has the line's
@@ -86,9 +86,11 @@ pub fn sum_sources<A: Allocator + Clone + Drop, S: Sources>(
     amount: Amount,
     lg_k: u8,
     sources: &mut S,
-) -> Result<CompactTupleSketch<u64, A>, SumError>
+) -> Result<SumsOfLines<A>, SumError>
     ensures sketch { IfSome (S.texts sources.old) (λ texts.
-        IfOk result (λ s. s ≡ sketch_of_sums hashing (added_by amount) lg_k (lines_of_all texts))) }
+        IfOk result (λ s. s.sketch ≡ sketch_of_sums hashing (added_by amount) lg_k (lines_of_all texts))) }
+    ensures total { IfSome (S.texts sources.old) (λ texts.
+        IfOk result (λ s. s.total ≡ min (total_added (added_by amount) (lines_of_all texts)) GREATEST_TOTAL)) }
     ensures numbers { IfSome (S.texts sources.old) (λ texts.
         IfOk result (λ _. AreNumbers amount (lines_of_all texts))) }
     ensures numbered { IfSome (S.texts sources.old) (λ texts. IfErr result (LacksNumberOf amount texts)) }
@@ -96,7 +98,7 @@ pub fn sum_sources<A: Allocator + Clone + Drop, S: Sources>(
     ensures refused { RefusesSums amount result (settings_refusal lg_k MAX_THETA hashing.seed) }
     ensures fallible { IfErr result (FailsIf S.may_fail) }
 {
-    let mut sketch = new_sketch(alloc.clone()?, hashing.seed, lg_k)?;
-    add_sources(&mut sketch, alloc, hashing, amount, sources)?;
-    Ok(trim_and_compact(&mut sketch)?)
+    let mut summation = Summation::new(alloc.clone()?, hashing.seed, lg_k)?;
+    add_sources(&mut summation, alloc, hashing, amount, sources)?;
+    Ok(summation.finish()?)
 }

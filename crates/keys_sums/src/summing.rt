@@ -1,6 +1,6 @@
 //! Sketches of sums of the lines of a reader.
-ghost use Rattle.std.specs.Prelude.{◌≡◌, ◌<◌, ◌++◌, ◌∷◌, ℕ, Bool, List, [], length, IfOk, IfErr, OnOk, IfSome};
-ghost use Rattle.std.specs.Prelude.{None, true};
+ghost use Rattle.std.specs.Prelude.{◌≡◌, ◌<◌, ◌++◌, ◌∷◌, ℕ, Bool, List, [], length, min, IfOk, IfErr, OnOk, IfSome};
+ghost use Rattle.std.specs.Prelude.{None, Some, true};
 ghost use Rattle.sketch_base.specs.declared.error.ErrorKind.TheVariants.{Policy};
 ghost use Rattle.core_laws.specs.Refusal.{Refuses};
 ghost use Rattle.core_laws.specs.Settings.{settings_refusal};
@@ -8,8 +8,8 @@ ghost use Rattle.core_laws.specs.declared.TheConstants.{MAX_THETA};
 ghost use Rattle.keys_lines.specs.Keys.{line_hash};
 ghost use Rattle.keys_lines.specs.Lines.{lines_after};
 ghost use Rattle.keys_lines.specs.declared.key.Hashing.{Hashing};
-ghost use Rattle.keys_sums.specs.Amounts.{IsOpenAddend};
-ghost use Rattle.keys_sums.specs.Sums.{HasSummed, sketch_of_sums};
+ghost use Rattle.keys_sums.specs.Amounts.{added_by, amount_in, IsOpenAddend};
+ghost use Rattle.keys_sums.specs.Sums.{GREATEST_TOTAL, HasAdded, sketch_of_sums, total_added};
 ghost use Rattle.keys_sums.specs.Reading.{HasTaken, AddsLines, AddsText, ReportsPast, ReportsPastText};
 ghost use Rattle.keys_sums.specs.Refusals.{FailsIf, IsAddRefusal, IsByPolicy, IsLastingFailure, IsPast, IsSumError};
 ghost use Rattle.keys_sums.specs.Refusals.{LacksNumber, LacksNumberAt, LacksNumberIn, RefusesSums};
@@ -21,6 +21,7 @@ use keys_sketches::TextReader;
 use sketch_base::{Error, ErrorKind};
 use std::alloc::{AllocError, Allocator, Global};
 use std::io;
+use std::marker::Model;
 use tuple_sketches::{CompactTupleSketch, DefaultUpdatePolicy, TupleSketch, TupleSketchBuilder};
 
 /// A tuple sketch whose summaries are sums of 64 bits.
@@ -60,39 +61,89 @@ impl From<AllocError> for SumError {
     }
 }
 
-/// A new sketch of 2^`lg_k` nominal entries, under this seed. Refused with `InvalidArgument` for an `lg_k` that isn't
-/// from 4 to 26 or a seed whose seed hash is 0, and with `OutOfMemory`.
-pub fn new_sketch<A: Allocator + Drop>(alloc: A, seed: u64, lg_k: u8) -> Result<SumSketch<A>, Error>
-    ensures new { (hashing : Hashing) (amount : List ℕ → ℕ)
-        → hashing.seed ≡ seed
-        → IfOk result (λ s. HasSummed hashing amount lg_k [] s.state) }
-    ensures refused { Refuses result (settings_refusal lg_k MAX_THETA seed) true }
-{
-    TupleSketchBuilder::new(DefaultUpdatePolicy::<u64>::default())
-        .lg_k(lg_k)
-        .seed(seed)
-        .build(alloc)
+/// Lines that are being summed: a sketch of the sums of their keys, and the total of what they add.
+#[derive(Drop)]
+pub struct Summation<A: Allocator + Clone = Global> {
+    sketch: SumSketch<A>,
+    total: u128,
 }
 
-/// Adds to the sum of a hash. Refused with `OutOfMemory`, and with `Policy` only if a sum would be 2^64 or more.
-fn add_value<A: Allocator + Clone>(
-    sketch: &mut SumSketch<A>,
-    hash: u64,
-    value: u64,
-) -> Result<(), Error>
-    ensures summed { (hashing : Hashing) (amount : List ℕ → ℕ) (lg_k : ℕ) (lines : List (List ℕ)) (line : List ℕ)
-        → hash ≡ line_hash hashing line
-        → amount line ≡ value
-        → HasSummed hashing amount lg_k lines sketch.old.state
-        → OnOk result (HasSummed hashing amount lg_k (lines ++ line ∷ []) sketch.new.state) }
-    ensures past { (hashing : Hashing) (amount : List ℕ → ℕ) (lg_k : ℕ) (lines : List (List ℕ)) (line : List ℕ)
-        → hash ≡ line_hash hashing line
-        → amount line ≡ value
-        → HasSummed hashing amount lg_k lines sketch.old.state
-        → IfErr result (λ e. e ≡ Policy → IsPast hashing amount (lines ++ line ∷ [])) }
-    ensures refused { IfErr result IsAddRefusal }
-{
-    sketch.update_hash(hash, value)
+impl<A: Allocator + Clone> Model for Summation<A> {
+    ghost use Rattle.keys_sums.specs.Sums.{Summed};
+
+    ghost Value = { Summed };
+
+    ghost view = { λ s. record { sketch = s.sketch.state; total = s.total } };
+}
+
+/// The sums of lines: the sketch of those of their keys, and the total.
+#[derive(Drop)]
+pub struct SumsOfLines<A: Allocator = Global> {
+    /// The ordered sketch, in which each retained hash has the sum of what its lines add.
+    pub sketch: CompactTupleSketch<u64, A>,
+    /// The total of what all lines add, below 2^128, exact however few keys the sketch retains. 2^128 - 1 stands for
+    /// any greater total, which takes more than 2^64 lines.
+    pub total: u128,
+}
+
+impl<A: Allocator + Clone> Summation<A> {
+    /// No lines yet, with a sketch of 2^`lg_k` nominal entries under this seed. Refused with `InvalidArgument` for an
+    /// `lg_k` that isn't from 4 to 26 or a seed whose seed hash is 0, and with `OutOfMemory`.
+    pub fn new(alloc: A, seed: u64, lg_k: u8) -> Result<Summation<A>, Error>
+        ensures new { (hashing : Hashing) (amount : Amount)
+            → hashing.seed ≡ seed
+            → IfOk result (HasAdded hashing amount lg_k []) }
+        ensures refused { Refuses result (settings_refusal lg_k MAX_THETA seed) true }
+    {
+        let sketch = TupleSketchBuilder::new(DefaultUpdatePolicy::<u64>::default())
+            .lg_k(lg_k)
+            .seed(seed)
+            .build(alloc)?;
+        Ok(Summation { sketch, total: 0 })
+    }
+
+    /// Adds to the sum of a hash, and to the total. Refused with `OutOfMemory`, and with `Policy` only if the sum of a
+    /// key would be 2^64 or more.
+    fn add(&mut self, hash: u64, value: u64) -> Result<(), Error>
+        ensures added { (hashing : Hashing) (amount : Amount) (lg_k : ℕ) (lines : List (List ℕ)) (line : List ℕ)
+            → hash ≡ line_hash hashing line
+            → amount_in amount line ≡ Some value
+            → HasAdded hashing amount lg_k lines self.old
+            → OnOk result (HasAdded hashing amount lg_k (lines ++ line ∷ []) self.new) }
+        ensures past { (hashing : Hashing) (amount : Amount) (lg_k : ℕ) (lines : List (List ℕ)) (line : List ℕ)
+            → hash ≡ line_hash hashing line
+            → amount_in amount line ≡ Some value
+            → HasAdded hashing amount lg_k lines self.old
+            → IfErr result (λ e. e ≡ Policy → IsPast hashing (added_by amount) (lines ++ line ∷ [])) }
+        ensures refused { IfErr result IsAddRefusal }
+    {
+        match self.sketch.update_hash(hash, value) {
+            Ok(()) => {
+                self.total = self.total.saturating_add(value as u128);
+                Ok(())
+            }
+            Err(error) => Err(error),
+        }
+    }
+
+    /// The sums of the lines so far. The sketch is trimmed, and stays so. Refused only with `OutOfMemory`; then the
+    /// sketch may be trimmed already.
+    pub fn finish(&mut self) -> Result<SumsOfLines<A>, Error>
+        ensures sketch { (hashing : Hashing) (amount : Amount) (lg_k : ℕ) (lines : List (List ℕ))
+            → HasAdded hashing amount lg_k lines self.old
+            → IfOk result (λ s. s.sketch ≡ sketch_of_sums hashing (added_by amount) lg_k lines) }
+        ensures total { (hashing : Hashing) (amount : Amount) (lg_k : ℕ) (lines : List (List ℕ))
+            → HasAdded hashing amount lg_k lines self.old
+            → IfOk result (λ s. s.total ≡ min (total_added (added_by amount) lines) GREATEST_TOTAL) }
+        ensures refused { Refuses result None true }
+    {
+        self.sketch.trim()?;
+        let sketch = self.sketch.compact(true)?;
+        Ok(SumsOfLines {
+            sketch,
+            total: self.total,
+        })
+    }
 }
 
 /// Why the line behind `count` others of its source was not added.
@@ -113,20 +164,20 @@ fn add_error(error: Error, count: u64) -> SumError
 
 /// Adds what a line behind `count` others of its source adds. It is reported to have no number only if it has none.
 fn add_line<A: Allocator + Clone>(
-    sketch: &mut SumSketch<A>,
+    summation: &mut Summation<A>,
     amount: Amount,
     last: &OpenAddend,
     count: u64,
 ) -> Result<(), SumError>
     ensures added { (hashing : Hashing) (line : List ℕ)
         → IsOpenAddend hashing amount line last.now
-        → AddsLines hashing amount (line ∷ []) sketch.old.state result sketch.new.state }
+        → AddsLines hashing amount (line ∷ []) summation.old result summation.new }
     ensures number { (hashing : Hashing) (line : List ℕ)
         → IsOpenAddend hashing amount line last.now
         → IfErr result (LacksNumber amount line count) }
     ensures past { (hashing : Hashing) (line : List ℕ)
         → IsOpenAddend hashing amount line last.now
-        → ReportsPast hashing amount (line ∷ []) sketch.old.state result }
+        → ReportsPast hashing amount (line ∷ []) summation.old result }
     ensures refused { RefusesSums amount result None }
     ensures retried { IfErr result IsLastingFailure }
     ensures fallible { (may_fail : Bool) → IfErr result (FailsIf may_fail) }
@@ -134,7 +185,7 @@ fn add_line<A: Allocator + Clone>(
     let Some(value) = last.value(amount) else {
         return Err(SumError::NotANumber(count.saturating_add(1)));
     };
-    match add_value(sketch, last.hash(), value) {
+    match summation.add(last.hash(), value) {
         Ok(()) => Ok(()),
         Err(error) => Err(add_error(error, count)),
     }
@@ -143,7 +194,7 @@ fn add_line<A: Allocator + Clone>(
 /// Adds each line that ends in a block, which continues an open line behind `count` lines. The open line is then the
 /// text behind the block's last LF. Returns how many lines of the text have ended so far.
 fn take_block<A: Allocator + Clone>(
-    sketch: &mut SumSketch<A>,
+    summation: &mut Summation<A>,
     hashing: Hashing,
     amount: Amount,
     last: &mut OpenAddend,
@@ -152,13 +203,13 @@ fn take_block<A: Allocator + Clone>(
 ) -> Result<u64, SumError>
     ensures taken { (front : List ℕ)
         → IsOpenAddend hashing amount front last.old
-        → IfOk result (HasTaken hashing amount front block.now sketch.old.state sketch.new.state last.new count) }
+        → IfOk result (HasTaken hashing amount front block.now summation.old summation.new last.new count) }
     ensures numbered { (front more : List ℕ)
         → IsOpenAddend hashing amount front last.old
         → IfErr result (LacksNumberIn amount count (lines_after front (block.now ++ more))) }
     ensures past { (front more : List ℕ)
         → IsOpenAddend hashing amount front last.old
-        → ReportsPast hashing amount (lines_after front (block.now ++ more)) sketch.old.state result }
+        → ReportsPast hashing amount (lines_after front (block.now ++ more)) summation.old result }
     ensures refused { RefusesSums amount result None }
     ensures retried { IfErr result IsLastingFailure }
     ensures fallible { (may_fail : Bool) → IfErr result (FailsIf may_fail) }
@@ -167,7 +218,7 @@ fn take_block<A: Allocator + Clone>(
     let mut count = count;
     while let Some((piece, others)) = cut_line(rest) {
         last.extend(amount, piece);
-        add_line(sketch, amount, last, count)?;
+        add_line(summation, amount, last, count)?;
         *last = OpenAddend::new(hashing);
         count = count.saturating_add(1);
         rest = others;
@@ -178,20 +229,20 @@ fn take_block<A: Allocator + Clone>(
 
 /// Adds a last line that no LF ends, if it has a byte; `count` lines are before it.
 fn take_last<A: Allocator + Clone>(
-    sketch: &mut SumSketch<A>,
+    summation: &mut Summation<A>,
     amount: Amount,
     last: &OpenAddend,
     count: u64,
 ) -> Result<(), SumError>
     ensures taken { (hashing : Hashing) (front : List ℕ)
         → IsOpenAddend hashing amount front last.now
-        → AddsLines hashing amount (lines_after front []) sketch.old.state result sketch.new.state }
+        → AddsLines hashing amount (lines_after front []) summation.old result summation.new }
     ensures numbered { (hashing : Hashing) (front : List ℕ)
         → IsOpenAddend hashing amount front last.now
         → IfErr result (LacksNumberIn amount count (lines_after front [])) }
     ensures past { (hashing : Hashing) (front : List ℕ)
         → IsOpenAddend hashing amount front last.now
-        → ReportsPast hashing amount (lines_after front []) sketch.old.state result }
+        → ReportsPast hashing amount (lines_after front []) summation.old result }
     ensures refused { RefusesSums amount result None }
     ensures retried { IfErr result IsLastingFailure }
     ensures fallible { (may_fail : Bool) → IfErr result (FailsIf may_fail) }
@@ -199,11 +250,11 @@ fn take_last<A: Allocator + Clone>(
     if !last.is_begun() {
         return Ok(());
     }
-    add_line(sketch, amount, last, count)
+    add_line(summation, amount, last, count)
 }
 
 /// Adds what each line that a reader has left adds, block by block, to the sum at the line's key. The seed of
-/// `hashing` should be the sketch's, which is not checked. An interrupted read is repeated.
+/// `hashing` should be the summation's, which is not checked. An interrupted read is repeated.
 ///
 /// Refused only with `OutOfMemory`. A line that would make a sum 2^64 or more, or that adds no number, is an error
 /// that has its number. A line is reported to add no number only if the line of its number adds none, and a sum to be
@@ -212,16 +263,16 @@ fn take_last<A: Allocator + Clone>(
 ///
 /// `block` has at least one byte, and its length is the most that one read gets. Its old contents are not used.
 pub fn add_lines<A: Allocator + Clone, R: TextReader>(
-    sketch: &mut SumSketch<A>,
+    summation: &mut Summation<A>,
     hashing: Hashing,
     amount: Amount,
     reader: &mut R,
     block: &mut [u8],
 ) -> Result<(), SumError>
     requires room { 0 < length block.old }
-    ensures added { AddsText hashing amount (R.remaining reader.old) sketch.old.state result sketch.new.state }
+    ensures added { AddsText hashing amount (R.remaining reader.old) summation.old result summation.new }
     ensures numbered { IfSome (R.remaining reader.old) (λ text. IfErr result (LacksNumberAt amount text)) }
-    ensures past { ReportsPastText hashing amount (R.remaining reader.old) sketch.old.state result }
+    ensures past { ReportsPastText hashing amount (R.remaining reader.old) summation.old result }
     ensures refused { RefusesSums amount result None }
     ensures retried { IfErr result IsLastingFailure }
     ensures fallible { IfErr result (FailsIf R.may_fail) }
@@ -231,12 +282,12 @@ pub fn add_lines<A: Allocator + Clone, R: TextReader>(
     for _ in 0..u64::MAX {
         match reader.read(block) {
             Ok(0) => {
-                take_last(sketch, amount, &last, count)?;
+                take_last(summation, amount, &last, count)?;
                 return Ok(());
             }
             Ok(length) => {
                 let bytes = &block[..length];
-                count = take_block(sketch, hashing, amount, &mut last, count, bytes)?;
+                count = take_block(summation, hashing, amount, &mut last, count, bytes)?;
             }
             Err(error) => {
                 if error.kind() != io::ErrorKind::Interrupted {
@@ -249,18 +300,4 @@ pub fn add_lines<A: Allocator + Clone, R: TextReader>(
         }
     }
     Err(SumError::Refused(Error::from(AllocError)))
-}
-
-/// Trims the sketch, which stays trimmed, and returns its compact form, ordered. Refused only with `OutOfMemory`;
-/// then the sketch may be trimmed already.
-pub fn trim_and_compact<A: Allocator + Clone>(
-    sketch: &mut SumSketch<A>,
-) -> Result<CompactTupleSketch<u64, A>, Error>
-    ensures sketch { (hashing : Hashing) (amount : List ℕ → ℕ) (lg_k : ℕ) (lines : List (List ℕ))
-        → HasSummed hashing amount lg_k lines sketch.old.state
-        → IfOk result (λ s. s ≡ sketch_of_sums hashing amount lg_k lines) }
-    ensures refused { Refuses result None true }
-{
-    sketch.trim()?;
-    sketch.compact(true)
 }

@@ -1,10 +1,12 @@
 //! The answers of the reader of the arguments of `distinct`.
-use distinct_arguments::{Command, Form, Front, Options, Request, Seed, front_of, read_arguments};
+use distinct_arguments::{
+    Command, Form, Front, Options, Request, Seed, front_of, options_first, read_arguments,
+};
 use std::alloc::{AllocError, Global};
 use std::fmt::Display;
 use std::str;
 
-/// The words of a text, with a blank between two; none if it is empty.
+/// The words of a text, with a blank between two, options before files; none if it is empty.
 fn words_of(alloc: Global, text: &str) -> Result<Vec<String>, AllocError> {
     let mut words = Vec::new(alloc);
     if !text.is_empty() {
@@ -12,7 +14,7 @@ fn words_of(alloc: Global, text: &str) -> Result<Vec<String>, AllocError> {
             words.push(String::from_str(alloc, word)?)?;
         }
     }
-    Ok(words)
+    options_first(alloc, words.as_slice())
 }
 
 /// Appends the value of an option, behind its name, if it is set.
@@ -27,9 +29,22 @@ fn put_value<T: Display + Copy>(
     }
 }
 
+/// The default of `--lg-k`.
+fn default_lg_k(command: Command) -> u8 {
+    if command == Command::Count || command == Command::Visits {
+        16
+    } else {
+        12
+    }
+}
+
 /// Appends the numbers among options that differ from the defaults.
-fn put_numbers(text: &mut String, options: &Options<'_>) -> Result<(), AllocError> {
-    if options.lg_k != 12 {
+fn put_numbers(
+    text: &mut String,
+    command: Command,
+    options: &Options<'_>,
+) -> Result<(), AllocError> {
+    if options.lg_k != default_lg_k(command) {
         write!(text, " lg_k={}", options.lg_k)?;
     }
     put_value(text, "field", options.field)?;
@@ -47,6 +62,9 @@ fn put_names(text: &mut String, options: &Options<'_>) -> Result<(), AllocError>
         Seed::File(name) => write!(text, " seed_file={name}")?,
     }
     put_value(text, "list", options.list)?;
+    if let Some(share) = options.part {
+        write!(text, " part={}/{}", share.index, share.parts)?;
+    }
     put_value(text, "dir", options.dir)?;
     put_value(text, "output", options.output)?;
     put_value(text, "folder", options.folder)
@@ -61,6 +79,7 @@ fn put_flags(text: &mut String, options: &Options<'_>) -> Result<(), AllocError>
         (" visits", options.visits),
         (" keys", options.keys),
         (" progress", options.progress),
+        (" human", options.human),
     ] {
         if is_set {
             text.push_str(flag)?;
@@ -86,7 +105,7 @@ fn put_run(
     files: &[String],
 ) -> Result<(), AllocError> {
     write!(text, "{command:?}")?;
-    put_numbers(text, options)?;
+    put_numbers(text, command, options)?;
     put_names(text, options)?;
     put_flags(text, options)?;
     text.push_str(" |")?;

@@ -1,5 +1,5 @@
 //! The answers of the readers of images.
-use keys_sketches::{Flaw, entry_count, flaw_of, hex_line, image_length};
+use keys_sketches::{Flaw, ImageFlaw, entry_count, flaw_of, hex_line, image_length};
 use std::alloc::{AllocError, Global};
 use std::fmt::Display;
 use theta_sketches::{CompactThetaSketch, Error, ErrorKind};
@@ -107,14 +107,14 @@ pub fn put_refusal(text: &mut String, kind: ErrorKind) -> Result<(), AllocError>
 fn put_flaw(text: &mut String, flaw: Flaw) -> Result<(), AllocError> {
     let word = match flaw {
         Flaw::Hexadecimal => "hexadecimal",
-        Flaw::Short => "short",
-        Flaw::Family(family) => return write!(text, "family {family}"),
-        Flaw::Version(version) => return write!(text, "version {version}"),
-        Flaw::BigEndian => "big-endian",
-        Flaw::Seed => "seed",
-        Flaw::Cut => "cut",
-        Flaw::Longer => "longer",
-        Flaw::Damaged => "damaged",
+        Flaw::Image(ImageFlaw::Short) => "short",
+        Flaw::Image(ImageFlaw::Family(family)) => return write!(text, "family {family}"),
+        Flaw::Image(ImageFlaw::Version(version)) => return write!(text, "version {version}"),
+        Flaw::Image(ImageFlaw::BigEndian) => "big-endian",
+        Flaw::Image(ImageFlaw::Seed) => "seed",
+        Flaw::Image(ImageFlaw::Cut) => "cut",
+        Flaw::Image(ImageFlaw::Longer) => "longer",
+        Flaw::Image(ImageFlaw::Damaged) => "damaged",
     };
     text.push_str(word)
 }

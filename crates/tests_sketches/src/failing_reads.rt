@@ -84,10 +84,10 @@ fn sketched(alloc: Global, kind: ErrorKind) -> Result<Ended, Error> {
 
 /// How the lines of a reader that fails once are summed.
 fn summed(alloc: Global, kind: ErrorKind) -> Result<Ended, Error> {
-    let mut sketch = keys_sums::new_sketch(alloc, 9001, 12)?;
+    let mut summation = keys_sums::Summation::new(alloc, 9001, 12)?;
     let mut reader = FailsOnce { kind, reads: 0 };
     let mut block = [0u8; 64];
-    let made = keys_sums::add_lines(&mut sketch, LINES, Amount::One, &mut reader, &mut block);
+    let made = keys_sums::add_lines(&mut summation, LINES, Amount::One, &mut reader, &mut block);
     let error = match made {
         Ok(()) => None,
         Err(SumError::Failed(error)) => Some(error.kind()),
@@ -97,7 +97,7 @@ fn summed(alloc: Global, kind: ErrorKind) -> Result<Ended, Error> {
     Ok(Ended {
         error,
         reads: reader.reads,
-        retained: sketch.num_retained(),
+        retained: summation.finish()?.sketch.num_retained(),
     })
 }
 

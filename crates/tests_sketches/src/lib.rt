@@ -1,6 +1,6 @@
 //! Tests over the public calls of the theta sketches, and of the hash below them, which no line of calls can make:
 //! the documented example, a closure that captures a value, numbers of each type that a hasher writes, images whose
-//! hashes were chosen, a large table, and readers of lines that fail once.
+//! hashes were chosen, a large table, readers of lines that fail once, and readers of parts.
 #![tactic(auto)]
 
 #[cfg(test)]
@@ -15,3 +15,5 @@ mod large_table;
 mod mapped;
 #[cfg(test)]
 mod numbers;
+#[cfg(test)]
+mod parts;

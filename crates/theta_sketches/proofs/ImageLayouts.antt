@@ -1,194 +1,177 @@
--- The layouts of theta images: each reading of the relation has a layout, and each layout is a reading.
-use Rattle.std.proofs.Common.{◌≡◌, ℕ, ◌*◌, ◌<◌, ◌≤◌, ◌⊎◌, Bool, true, false, cond, not, List, length, slice_index, Option, Some, None, refl, ◌∙◌, inl, inr, arith, le-ltb, eqb-true, subst, ltb, leb, eqb, ◌&&◌, ◌||◌}
+-- The heads of theta images: each reading of the relation has a head, and each head is a reading.
+use Rattle.std.proofs.Common.{◌≡◌, ℕ, ◌*◌, ◌<◌, ◌≤◌, Bool, true, false, cond, not, List, length, take, Option, Some, None, Result, Ok, Err, refl, ◌∙◌, inl, inr, arith, le-ltb, le-leb, eq-eqb, eqb-true, subst, ltb, leb, eqb, ◌&&◌}
 use Rattle.std.proofs.lemmas.Bool.Decides.{nat_tests}
-use Rattle.std.proofs.lemmas.Bool.{cases_eq}
+use Rattle.std.proofs.lemmas.Bool.{cases_eq, and_from}
 use Rattle.core_compact.specs.CompactState.{Compact}
 use Rattle.core_laws.specs.Entries.{hash_key}
-use Rattle.core_images.specs.Preamble.{Begins, announced, seed_hash_at, count_at, theta_at, admitted, flagged_layout, IsWholeLayout}
+use Rattle.core_images.specs.Preamble.{Begins, is_vacant, seed_hash_at}
 use Rattle.core_images.specs.Entry.{SpellsHash}
-use Rattle.core_images.specs.Read.{LeavesOpen}
-use Rattle.core_laws.specs.declared.TheConstants.{MAX_THETA}
-use Rattle.core_images.specs.declared.preamble.ImageLayout.{ImageLayout}
-use Rattle.core_images.specs.declared.preamble.ImageLayout.TheVariants.{Empty, Filled}
-use Rattle.core_images.specs.declared.preamble.Preamble.{Preamble}
-use Rattle.core_images.proofs.ImageLayouts.{along, chosen, admitted_to, flagged_from, flagged_to, either_whole, admitted_whole, flagged_whole}
-use Rattle.theta_sketches.specs.Image.{SpellsSketch, version_3, version_2_empty, version_2_exact, version_2_estimating, version_1, ReadsUnflagged, vacant_image, filled_image, is_vacant}
-use Rattle.theta_sketches.specs.ImageLayout.{theta_layout, unflagged_layout, version_1_layout, version_2_layout}
+use Rattle.core_images.specs.Head.{longs_at, version_at, family_at, has_longs, preamble_of, vacant, filled, flagged_head, unflagged_head, version_2_head, theta_head, theta_layout, is_of_seed, IsWholeLayout, count_of}
+use Rattle.core_images.specs.HashSpelling.{hash_long}
+use Rattle.core_images.specs.declared.flaw.Flaw.{Flaw}
+use Rattle.core_images.specs.declared.flaw.Flaw.TheVariants.{Short, Family, Version, Cut, Damaged}
+use Rattle.core_images.specs.declared.head.Head.{Head}
+use Rattle.core_images.proofs.Fronts.{theta_same, open_alone}
+use Rattle.core_images.proofs.ImageLayouts.{Comes, Heads, IsWholeHead, along, chosen, both_true, not_false, flagged_from, flagged_to, theta_whole, open_from, open_to, layout_whole}
+use Rattle.theta_sketches.specs.Image.{SpellsSketch, version_3, version_2_empty, version_2_exact, version_2_estimating, version_1, ReadsUnflagged, vacant_image, filled_image, Reads, BeginsWith}
 
-unflagged_vacant : (p : Preamble) (reported h : ℕ) → is_vacant p ≡ true → unflagged_layout p reported h ≡ Some Empty
-unfolding unflagged_layout
-unflagged_vacant p reported h e = rw e refl
-
-unflagged_filled : (p : Preamble) (reported h : ℕ) → is_vacant p ≡ false → reported ≡ h → 0 < p.theta → p.theta ≤ MAX_THETA → unflagged_layout p reported h ≡ Some (Filled p)
-unfolding unflagged_layout admitted
-unflagged_filled p reported h e t low high = grind (arith, nat_tests)
-
-begins_3 : (bytes : List ℕ) (longs h : ℕ) → Begins bytes longs 3 3 → theta_layout bytes h ≡ flagged_layout bytes longs h
-unfolding theta_layout
-begins_3 bytes longs h b = grind (arith, nat_tests, b.whole, b.longs_are, b.longs_low, b.longs_high, b.version_is, b.family_is)
-
-begins_2 : (bytes : List ℕ) (longs h : ℕ) → Begins bytes longs 2 3 → theta_layout bytes h ≡ version_2_layout bytes longs h
-unfolding theta_layout
-begins_2 bytes longs h b = grind (arith, nat_tests, b.whole, b.longs_are, b.longs_low, b.longs_high, b.version_is, b.family_is)
-
-begins_1 : (bytes : List ℕ) (longs h : ℕ) → Begins bytes longs 1 3 → theta_layout bytes h ≡ version_1_layout bytes h
-unfolding theta_layout
-begins_1 bytes longs h b = grind (arith, nat_tests, b.whole, b.longs_are, b.longs_low, b.longs_high, b.version_is, b.family_is)
-
-version_2_of_1 : (bytes : List ℕ) (h : ℕ) → version_2_layout bytes 1 h ≡ Some Empty
-unfolding version_2_layout
-version_2_of_1 bytes h = refl
-
-version_2_of_2 : (bytes : List ℕ) (h : ℕ) → 16 ≤ length bytes → version_2_layout bytes 2 h ≡ unflagged_layout (announced 2 (count_at bytes) MAX_THETA true) (seed_hash_at bytes) h
-unfolding version_2_layout
-version_2_of_2 bytes h w = rw (le-ltb (length bytes) 16 w) refl
-
-version_2_of_3 : (bytes : List ℕ) (h : ℕ) → 24 ≤ length bytes → version_2_layout bytes 3 h ≡ unflagged_layout (announced 3 (count_at bytes) (theta_at bytes) true) (seed_hash_at bytes) h
-unfolding version_2_layout
-version_2_of_3 bytes h w = rw (le-ltb (length bytes) 24 w) refl
-
-version_1_of : (bytes : List ℕ) (h : ℕ) → 24 ≤ length bytes → version_1_layout bytes h ≡ unflagged_layout (announced 3 (count_at bytes) (theta_at bytes) true) h h
-unfolding version_1_layout
-version_1_of bytes h w = rw (le-ltb (length bytes) 24 w) refl
-
--- the parts of `theta_layout`: the test before, and the choices among version 1, up to version 2, and up to version 3
 module _ (bytes : List ℕ) where
-  abbrev is_unfit : Bool
-  is_unfit = ltb (length bytes) 8 || not (leb 1 (slice_index bytes 0) && leb (slice_index bytes 0) 3) || not (eqb (slice_index bytes 2) 3)
+  abbrev from_1 : Result Head Flaw
+  from_1 = unflagged_head bytes 3 None
 
-  abbrev from_1 : (h : ℕ) → Option ImageLayout
-  from_1 h = cond (eqb (slice_index bytes 1) 1) (version_1_layout bytes h) None
+  abbrev from_2 : (longs : ℕ) → Result Head Flaw
+  from_2 longs = cond (eqb longs 1) (Ok (vacant 8)) (unflagged_head bytes longs (Some (seed_hash_at bytes)))
 
-  abbrev from_2 : (h : ℕ) → Option ImageLayout
-  from_2 h = cond (eqb (slice_index bytes 1) 2) (version_2_layout bytes (slice_index bytes 0) h) (from_1 h)
+  abbrev by_version : (version longs : ℕ) → Result Head Flaw
+  by_version version longs = cond (eqb version 3) (flagged_head 8 bytes longs) (cond (eqb version 2) (from_2 longs) from_1)
 
-  abbrev from_3 : (h : ℕ) → Option ImageLayout
-  from_3 h = cond (eqb (slice_index bytes 1) 3) (flagged_layout bytes (slice_index bytes 0) h) (from_2 h)
+  -- the head of bytes that begin as an image of some version
+  begun : (longs version : ℕ) → Begins bytes longs version 3 → 1 ≤ version → version ≤ 3 → theta_head bytes ≡ by_version version longs
+  unfolding theta_head
+  begun longs version b low high =
+      let known : (leb 1 version && leb version 3) ≡ true = and_from (leb 1 version) (leb version 3) (le-leb 1 version low) (le-leb version 3 high) in
+      let fit : (leb 1 longs && leb longs 3) ≡ true = and_from (leb 1 longs) (leb longs 3) (le-leb 1 longs b.longs_low) (le-leb longs 3 b.longs_high) in
+      rw (le-ltb (length bytes) 8 b.whole, b.family_is, b.version_is, b.longs_are, known, fit) refl
 
 module _ (bytes : List ℕ) (h : ℕ) where
-  abbrev pub Comes : Option ImageLayout → Compact ℕ → Type 0
-  Comes l s = LeavesOpen hash_key SpellsHash bytes h l s
+  abbrev Has : Result Head Flaw → Compact ℕ → Type 0
+  Has head s = Heads hash_key SpellsHash bytes h head s
 
-  comes_along : (l m : Option ImageLayout) (s : Compact ℕ) → l ≡ m → Comes m s → Comes l s
-  comes_along l m s e p = along hash_key SpellsHash bytes h l m s e p
+  has_along : (a b : Result Head Flaw) (s : Compact ℕ) → a ≡ b → Has b s → Has a s
+  has_along a b s e p = along hash_key SpellsHash bytes h a b s e p
 
-  choice : (t : Bool) (a b : Option ImageLayout) (s : Compact ℕ) → Comes (cond t a b) s → ((t ≡ true) × Comes a s) ⊎ ((t ≡ false) × Comes b s)
-  choice t a b s p = chosen hash_key SpellsHash bytes h t a b s p
+  unflagged_vacant : (longs : ℕ) (asked : Option ℕ) → 8 * longs ≤ length bytes → is_vacant (preamble_of bytes longs true) ≡ true → unflagged_head bytes longs asked ≡ Ok (vacant (8 * longs))
+  unfolding unflagged_head
+  unflagged_vacant longs asked w e = rw (le-ltb (length bytes) (8 * longs) w, e) refl
 
-  unflagged_from : {s : Compact ℕ} (p : Preamble) (reported : ℕ) → ReadsUnflagged bytes p reported h s → Comes (unflagged_layout p reported h) s
-  unflagged_from p reported (vacant_image w e) = comes_along _ _ _ (unflagged_vacant p reported h e) refl
-  unflagged_from p reported (filled_image xs e t f) = comes_along _ _ _ (unflagged_filled p reported h e t f.lawful.theta_low f.lawful.theta_high) (xs, refl, f)
+  unflagged_filled : (longs : ℕ) (asked : Option ℕ) → 8 * longs ≤ length bytes → is_vacant (preamble_of bytes longs true) ≡ false → unflagged_head bytes longs asked ≡ Ok (filled 8 (preamble_of bytes longs true) asked)
+  unfolding unflagged_head
+  unflagged_filled longs asked w e = rw (le-ltb (length bytes) (8 * longs) w, e) refl
 
-  unflagged_start : {s : Compact ℕ} (p : Preamble) (reported : ℕ) → ReadsUnflagged bytes p reported h s → p.start ≤ length bytes
-  unflagged_start p reported (vacant_image w e) = w
-  unflagged_start p reported (filled_image xs e t f) = f.whole
+  unflagged_from : (longs : ℕ) (asked : Option ℕ) (reported : ℕ) {s : Compact ℕ} → (reported ≡ h → is_of_seed h asked ≡ true) → ReadsUnflagged bytes (preamble_of bytes longs true) reported h s → Has (unflagged_head bytes longs asked) s
+  unflagged_from longs asked reported seed (vacant_image w e) = has_along _ _ _ (unflagged_vacant longs asked w e) (refl, refl)
+  unflagged_from longs asked reported seed (filled_image xs e t f) = has_along _ _ _ (unflagged_filled longs asked f.whole e) (seed t, (xs, refl, f))
 
-  -- the layout allows each reading
-  pub theta_from : {s : Compact ℕ} → SpellsSketch bytes h s → Comes (theta_layout bytes h) s
-  theta_from (version_3 longs s b r) = comes_along _ _ _ (begins_3 bytes longs h b) (flagged_from hash_key SpellsHash bytes h longs r)
-  theta_from (version_2_empty b) = comes_along _ _ _ (begins_2 bytes 1 h b ∙ version_2_of_1 bytes h) refl
-  theta_from (version_2_exact s b r) = comes_along _ _ _ (begins_2 bytes 2 h b ∙ version_2_of_2 bytes h (unflagged_start _ _ r)) (unflagged_from _ _ r)
-  theta_from (version_2_estimating s b r) = comes_along _ _ _ (begins_2 bytes 3 h b ∙ version_2_of_3 bytes h (unflagged_start _ _ r)) (unflagged_from _ _ r)
-  theta_from (version_1 longs s b r) = comes_along _ _ _ (begins_1 bytes longs h b ∙ version_1_of bytes h (unflagged_start _ _ r)) (unflagged_from _ _ r)
+  -- the head allows each reading
+  pub theta_from : {s : Compact ℕ} → SpellsSketch bytes h s → Has (theta_head bytes) s
+  theta_from (version_3 longs s b r) = has_along _ _ _ (begun bytes longs 3 b (omega arith) (omega arith)) (flagged_from hash_key SpellsHash bytes h 8 longs r)
+  theta_from (version_2_empty b) = has_along _ _ _ (begun bytes 1 2 b (omega arith) (omega arith)) (refl, refl)
+  theta_from (version_2_exact s b r) = has_along _ _ _ (begun bytes 2 2 b (omega arith) (omega arith)) (unflagged_from 2 (Some (seed_hash_at bytes)) (seed_hash_at bytes) (λ e. eq-eqb _ _ e) r)
+  theta_from (version_2_estimating s b r) = has_along _ _ _ (begun bytes 3 2 b (omega arith) (omega arith)) (unflagged_from 3 (Some (seed_hash_at bytes)) (seed_hash_at bytes) (λ e. eq-eqb _ _ e) r)
+  theta_from (version_1 longs s b r) = has_along _ _ _ (begun bytes longs 1 b (omega arith) (omega arith)) (unflagged_from 3 None h (λ e. refl) r)
 
-  unflagged_to : (p : Preamble) (reported : ℕ) (s : Compact ℕ) → p.start ≤ length bytes → Comes (unflagged_layout p reported h) s → ReadsUnflagged bytes p reported h s
-  unfolding unflagged_layout
-  unflagged_to p reported s w q = elim (choice (is_vacant p) (Some Empty) (cond (eqb reported h) (admitted p) None) s q) [
-    | inl f ↦ rw f.1 (vacant_image w f.0)
-    | inr f ↦ elim (choice (eqb reported h) (admitted p) None s f.1) [
-      | inl g ↦ let found = admitted_to hash_key SpellsHash bytes h p s g.1 in rw found.1 (filled_image found.0 f.0 (eqb-true _ _ g.0) found.2)
-      | inr g ↦ absurd g.1
-    ]
-  ]
-
-  version_2_to : (longs : ℕ) (s : Compact ℕ) → Begins bytes longs 2 3 → Comes (version_2_layout bytes longs h) s → SpellsSketch bytes h s
-  unfolding version_2_layout
-  version_2_to longs s b q =
-      let reported = unflagged_layout (announced longs (count_at bytes) (cond (eqb longs 2) MAX_THETA (theta_at bytes)) true) (seed_hash_at bytes) h in
-      let P : ℕ → Type 0 = λ n. Begins bytes n 2 3 in
-      let Q : ℕ → Type 0 = λ n. Comes (unflagged_layout (announced n (count_at bytes) (cond (eqb n 2) MAX_THETA (theta_at bytes)) true) (seed_hash_at bytes) h) s in
-      elim (choice (eqb longs 1) (Some Empty) (cond (ltb (length bytes) (8 * longs)) None reported) s q) [
-        | inl c ↦ rw c.1 (version_2_empty (subst P (eqb-true _ _ c.0) b))
-        | inr c ↦ elim (choice (ltb (length bytes) (8 * longs)) None reported s c.1) [
-          | inl d ↦ absurd d.1
-          | inr d ↦
-              let whole : 8 * longs ≤ length bytes = grind (arith, nat_tests, d.0) in
-              elim (cases_eq longs 2) [
-                | inl e ↦
-                    let more : 16 ≤ length bytes = omega arith in
-                    version_2_exact s (subst P e b) (unflagged_to _ _ s more (subst Q e d.1))
-                | inr n ↦
-                    let e : longs ≡ 3 = grind (arith, nat_tests, c.0, b.longs_low, b.longs_high) in
-                    let more : 24 ≤ length bytes = omega arith in
-                    version_2_estimating s (subst P e b) (unflagged_to _ _ s more (subst Q e d.1))
-              ]
-        ]
-      ]
-
-  version_1_to : (longs : ℕ) (s : Compact ℕ) → Begins bytes longs 1 3 → Comes (version_1_layout bytes h) s → SpellsSketch bytes h s
-  unfolding version_1_layout
-  version_1_to longs s b q =
-      let reported = unflagged_layout (announced 3 (count_at bytes) (theta_at bytes) true) h h in
-      elim (choice (ltb (length bytes) 24) None reported s q) [
-        | inl c ↦ absurd c.1
-        | inr c ↦
-            let more : 24 ≤ length bytes = grind (arith, nat_tests, c.0) in
-            version_1 longs s b (unflagged_to _ _ s more c.1)
-      ]
-
-  -- each state that the layout allows is a reading
-  pub theta_to : (s : Compact ℕ) → Comes (theta_layout bytes h) s → SpellsSketch bytes h s
-  unfolding theta_layout
-  theta_to s q =
-      let longs = slice_index bytes 0 in
-      let version = slice_index bytes 1 in
-      let family = slice_index bytes 2 in
-      elim (choice (is_unfit bytes) None (from_3 bytes h) s q) [
+  unflagged_to : (longs : ℕ) (asked : Option ℕ) (reported : ℕ) (s : Compact ℕ) → (is_of_seed h asked ≡ true → reported ≡ h) → Has (unflagged_head bytes longs asked) s → ReadsUnflagged bytes (preamble_of bytes longs true) reported h s
+  unfolding unflagged_head
+  unflagged_to longs asked reported s seed q =
+      let P : Result Head Flaw → Type 0 = λ head. Has head s in
+      let p = preamble_of bytes longs true in
+      elim (chosen P (ltb (length bytes) (8 * longs)) (Err Cut) (cond (is_vacant p) (Ok (vacant (8 * longs))) (Ok (filled 8 p asked))) q) [
         | inl a ↦ absurd a.1
         | inr a ↦
-            let theta : family ≡ 3 = grind (arith, nat_tests, a.0) in
-            let whole : 8 ≤ length bytes = grind (arith, nat_tests, a.0) in
-            let low : 1 ≤ longs = grind (arith, nat_tests, a.0) in
-            let high : longs ≤ 3 = grind (arith, nat_tests, a.0) in
-            elim (choice (eqb version 3) (flagged_layout bytes longs h) (from_2 bytes h) s a.1) [
-              | inl b ↦ version_3 longs s (record { whole = whole; longs_are = refl; longs_low = low; longs_high = high; version_is = eqb-true _ _ b.0; family_is = theta }) (flagged_to hash_key SpellsHash bytes h longs s low high b.1)
-              | inr b ↦ elim (choice (eqb version 2) (version_2_layout bytes longs h) (from_1 bytes h) s b.1) [
-                | inl c ↦ version_2_to longs s (record { whole = whole; longs_are = refl; longs_low = low; longs_high = high; version_is = eqb-true _ _ c.0; family_is = theta }) c.1
-                | inr c ↦ elim (choice (eqb version 1) (version_1_layout bytes h) None s c.1) [
-                  | inl d ↦ version_1_to longs s (record { whole = whole; longs_are = refl; longs_low = low; longs_high = high; version_is = eqb-true _ _ d.0; family_is = theta }) d.1
-                  | inr d ↦ absurd d.1
-                ]
-              ]
+            let whole : 8 * longs ≤ length bytes = grind (arith, nat_tests, a.0) in
+            elim (chosen P (is_vacant p) (Ok (vacant (8 * longs))) (Ok (filled 8 p asked)) a.1) [
+              | inl b ↦ rw b.1.1 (vacant_image whole b.0)
+              | inr b ↦ rw b.1.1.1 (filled_image b.1.1.0 b.0 (seed b.1.0) b.1.1.2)
             ]
       ]
 
-  -- every layout of a theta image is whole
-  unflagged_whole : (p : Preamble) (reported : ℕ) → p.start ≤ length bytes → IsWholeLayout bytes (unflagged_layout p reported h)
-  unfolding unflagged_layout
-  unflagged_whole p reported w = either_whole bytes h (is_vacant p) (Some Empty) (cond (eqb reported h) (admitted p) None) (λ e. tt) (λ e. either_whole bytes h (eqb reported h) (admitted p) None (λ f. admitted_whole bytes h p w) (λ f. tt))
+  version_2_to : (longs : ℕ) (s : Compact ℕ) → Begins bytes longs 2 3 → Has (from_2 bytes longs) s → SpellsSketch bytes h s
+  version_2_to longs s b q =
+      let P : Result Head Flaw → Type 0 = λ head. Has head s in
+      let B : ℕ → Type 0 = λ n. Begins bytes n 2 3 in
+      let Q : ℕ → Type 0 = λ n. ReadsUnflagged bytes (preamble_of bytes n true) (seed_hash_at bytes) h s in
+      elim (chosen P (eqb longs 1) (Ok (vacant 8)) (unflagged_head bytes longs (Some (seed_hash_at bytes))) q) [
+        | inl c ↦ rw c.1.1 (version_2_empty (subst B (eqb-true longs 1 c.0) b))
+        | inr c ↦
+            let r = unflagged_to longs (Some (seed_hash_at bytes)) (seed_hash_at bytes) s (λ e. eqb-true _ _ e) c.1 in
+            elim (cases_eq longs 2) [
+              | inl e ↦ version_2_exact s (subst B e b) (subst Q e r)
+              | inr n ↦
+                  let e : longs ≡ 3 = grind (arith, nat_tests, c.0, n, b.longs_low, b.longs_high) in
+                  version_2_estimating s (subst B e b) (subst Q e r)
+            ]
+      ]
 
-  version_2_whole : (longs : ℕ) → IsWholeLayout bytes (version_2_layout bytes longs h)
-  unfolding version_2_layout
-  version_2_whole longs =
-      let p = announced longs (count_at bytes) (cond (eqb longs 2) MAX_THETA (theta_at bytes)) true in
-      let reported = unflagged_layout p (seed_hash_at bytes) h in
-      either_whole bytes h (eqb longs 1) (Some Empty) (cond (ltb (length bytes) (8 * longs)) None reported) (λ e. tt) (λ e.
-      either_whole bytes h (ltb (length bytes) (8 * longs)) None reported (λ f. tt) (λ f. unflagged_whole p (seed_hash_at bytes) (grind (arith, nat_tests, f))))
+  -- each state that the head allows is a reading
+  pub theta_to : (s : Compact ℕ) → Has (theta_head bytes) s → SpellsSketch bytes h s
+  unfolding theta_head
+  theta_to s q =
+      let P : Result Head Flaw → Type 0 = λ head. Has head s in
+      let longs = longs_at bytes in
+      let version = version_at bytes in
+      let family = family_at bytes in
+      let known = leb 1 version && leb version 3 in
+      let third = by_version bytes version longs in
+      let second = cond (not (has_longs bytes)) (Err Damaged) third in
+      let first = cond (not known) (Err (Version version)) second in
+      elim (chosen P (ltb (length bytes) 8) (Err Short) (cond (not (eqb family 3)) (Err (Family family)) first) q) [
+        | inl a ↦ absurd a.1
+        | inr a ↦ elim (chosen P (not (eqb family 3)) (Err (Family family)) first a.1) [
+          | inl f ↦ absurd f.1
+          | inr f ↦ elim (chosen P (not known) (Err (Version version)) second f.1) [
+            | inl v ↦ absurd v.1
+            | inr v ↦ elim (chosen P (not (has_longs bytes)) (Err Damaged) third v.1) [
+              | inl l ↦ absurd l.1
+              | inr l ↦
+                  let whole : 8 ≤ length bytes = grind (arith, nat_tests, a.0) in
+                  let theta : family ≡ 3 = eqb-true family 3 (not_false (eqb family 3) f.0) in
+                  let fit = both_true (leb 1 longs) (leb longs 3) (not_false (has_longs bytes) l.0) in
+                  let low : 1 ≤ longs = grind (arith, nat_tests, fit.0) in
+                  let high : longs ≤ 3 = grind (arith, nat_tests, fit.1) in
+                  let begins : (n : ℕ) → version ≡ n → Begins bytes longs n 3 = λ n e. record { whole = whole; longs_are = refl; longs_low = low; longs_high = high; version_is = e; family_is = theta } in
+                  elim (chosen P (eqb version 3) (flagged_head 8 bytes longs) (cond (eqb version 2) (from_2 bytes longs) (from_1 bytes)) l.1) [
+                    | inl b ↦ version_3 longs s (begins 3 (eqb-true version 3 b.0)) (flagged_to hash_key SpellsHash bytes h 8 longs s low high b.1)
+                    | inr b ↦ elim (chosen P (eqb version 2) (from_2 bytes longs) (from_1 bytes) b.1) [
+                      | inl c ↦ version_2_to longs s (begins 2 (eqb-true version 2 c.0)) c.1
+                      | inr c ↦
+                          let read = both_true (leb 1 version) (leb version 3) (not_false known v.0) in
+                          let one : version ≡ 1 = grind (arith, nat_tests, b.0, c.0, read.0, read.1) in
+                          version_1 longs s (begins 1 one) (unflagged_to 3 None h s (λ e. refl) c.1)
+                    ]
+                  ]
+            ]
+          ]
+        ]
+      ]
 
-  version_1_whole : IsWholeLayout bytes (version_1_layout bytes h)
-  unfolding version_1_layout
-  version_1_whole =
-      let p = announced 3 (count_at bytes) (theta_at bytes) true in
-      either_whole bytes h (ltb (length bytes) 24) None (unflagged_layout p h h) (λ e. tt) (λ e. unflagged_whole p h (grind (arith, nat_tests, e)))
+  -- ---- the layout for a reader
 
-  pub theta_whole : IsWholeLayout bytes (theta_layout bytes h)
-  unfolding theta_layout
-  theta_whole =
-      let longs = slice_index bytes 0 in
-      let version = slice_index bytes 1 in
-      either_whole bytes h (is_unfit bytes) None (from_3 bytes h) (λ e. tt) (λ e.
-      let low : 1 ≤ longs = grind (arith, nat_tests, e) in
-      let high : longs ≤ 3 = grind (arith, nat_tests, e) in
-      either_whole bytes h (eqb version 3) (flagged_layout bytes longs h) (from_2 bytes h) (λ f. flagged_whole bytes h longs low high) (λ f.
-      either_whole bytes h (eqb version 2) (version_2_layout bytes longs h) (from_1 bytes h) (λ a. version_2_whole longs) (λ a.
-      either_whole bytes h (eqb version 1) (version_1_layout bytes h) None (λ b. version_1_whole) (λ b. tt))))
+  pub whole_layout : IsWholeLayout bytes (theta_layout h bytes)
+  whole_layout = layout_whole 8 bytes h (theta_head bytes) (theta_whole bytes)
+
+  pub layout_from : (s : Compact ℕ) → Reads bytes h s → Comes hash_key SpellsHash bytes h (theta_layout h bytes) s
+  layout_from s r = open_from hash_key SpellsHash bytes h 8 hash_long (theta_head bytes) s r.seeded (theta_whole bytes) (theta_from r.spelled)
+
+  pub layout_to : (s : Compact ℕ) → Comes hash_key SpellsHash bytes h (theta_layout h bytes) s → Reads bytes h s
+  layout_to s q =
+      let p = open_to hash_key SpellsHash bytes h (length bytes) (theta_head bytes) s q in
+      record { seeded = p.0; spelled = theta_to s p.1 }
+
+-- ---- the image alone
+
+-- what the preamble says of bytes that are read: where the image ends that alone is read as the same, and how many entries it has
+pub record IsTold (bytes : List ℕ) (h : ℕ) (s : Compact ℕ) : Type 0 where
+  pub head : Head
+  pub head_is : theta_head bytes ≡ Ok head
+  pub begins : BeginsWith bytes h head.length s
+  pub counted : count_of (theta_head bytes) ≡ length s.entries
+
+told_by : (bytes : List ℕ) (h : ℕ) (s : Compact ℕ) (found : Result Head Flaw) → 0 < h → theta_head bytes ≡ found → IsWholeHead 8 bytes found → Has bytes h found s → IsTold bytes h s
+told_by bytes h s (Err flaw) nonzero e w p = absurd p
+told_by bytes h s (Ok head) nonzero e w p =
+    let n = head.length in
+    let alone = open_alone hash_key SpellsHash 8 (λ text x spelled. spelled.0) bytes h head.layout n s w p.1 in
+    let enough : n ≤ n = omega arith in
+    let same = theta_same bytes n head alone.0 enough alone.1 e in record {
+      head = head;
+      head_is = e;
+      begins = record {
+        size_is = rw e refl;
+        within = alone.1;
+        alone = record { seeded = nonzero; spelled = theta_to (take n bytes) h s (has_along (take n bytes) h _ _ s same (p.0, alone.2)) };
+      };
+      counted = rw e alone.3;
+    }
+
+pub told : (bytes : List ℕ) (h : ℕ) (s : Compact ℕ) → Reads bytes h s → IsTold bytes h s
+told bytes h s r = told_by bytes h s (theta_head bytes) r.seeded refl (theta_whole bytes) (theta_from bytes h r.spelled)

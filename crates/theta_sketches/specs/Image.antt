@@ -1,18 +1,15 @@
 -- Images of theta sketches: which bytes are read as which sketch, and which are written.
-use Rattle.std.specs.Prelude.{ℕ, ◌≡◌, ◌≤◌, ◌<◌, ◌==◌, ◌&&◌, Bool, true, false, List, length}
+use Rattle.std.specs.Prelude.{ℕ, ◌≡◌, ◌≤◌, ◌<◌, true, false, List, length, take, Some}
 use Rattle.std.specs.Int.{w64, to_le_bytes}
 use Rattle.core_compact.specs.CompactState.{Compact, empty_compact}
 use Rattle.core_laws.specs.Entries.{hash_key}
-use Rattle.core_images.specs.Preamble.{Begins, announced, seed_hash_at, count_at, theta_at}
+use Rattle.core_images.specs.Preamble.{Begins, is_vacant, announced, seed_hash_at, count_at, theta_at}
+use Rattle.core_images.specs.Head.{theta_head, length_of}
 use Rattle.core_images.specs.Read.{ReadsFlagged}
 use Rattle.core_images.specs.Write.{written_image}
 use Rattle.core_images.specs.Entry.{HasEntries, state_after_preamble, SpellsHash}
 use Rattle.core_laws.specs.declared.TheConstants.{MAX_THETA}
 use Rattle.core_images.specs.declared.preamble.Preamble.{Preamble}
-
--- a preamble of no entries at the greatest theta: without flags, it means the empty sketch
-abbrev pub is_vacant : Preamble → Bool
-is_vacant p = p.count == 0 && p.theta == MAX_THETA
 
 -- Versions 1 and 2 with this preamble: the seed hash of the image is checked only if the sketch is not empty.
 pub data ReadsUnflagged (bytes : List ℕ) (p : Preamble) (image_seed_hash h : ℕ) : Compact ℕ → Type 0 where
@@ -43,6 +40,12 @@ pub record Reads (bytes : List ℕ) (h : ℕ) (s : Compact ℕ) : Type 0 where
 -- the bytes are read as some sketch
 abbrev pub IsReadable : List ℕ → (h : ℕ) → Type 0
 IsReadable bytes h = (s : Compact ℕ) × Reads bytes h s
+
+-- the bytes begin with an image of this length, by its preamble, which alone is read as the sketch
+pub record BeginsWith (bytes : List ℕ) (h : ℕ) (size : ℕ) (s : Compact ℕ) : Type 0 where
+  pub size_is : length_of (theta_head bytes) ≡ Some size
+  pub within : size ≤ length bytes
+  pub alone : Reads (take size bytes) h s
 
 -- the image of a sketch
 abbrev pub written : Compact ℕ → List ℕ

@@ -1,4 +1,3 @@
 pub mod View
 pub mod Image
-pub mod ImageLayout
 pub mod Streams

@@ -62,6 +62,7 @@ mod view;
 pub use a_not_b::ThetaANotB;
 pub use builder::{ThetaSketchBuilder, ThetaUnionBuilder};
 pub use compact_sketch::CompactThetaSketch;
+pub use core_images::{Flaw, ReadError};
 pub use core_laws::MAX_THETA;
 pub use core_slots::ThetaEntry;
 pub use core_state::ThetaSketchIter;

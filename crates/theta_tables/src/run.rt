@@ -33,7 +33,7 @@ pub fn run_table<T: ThetaTable<ThetaEntry>, A: Allocator>(
     ensures refused { Refuses result None (nat_lt 0 (length commands.now)) }
 {
     let mut answer = Vec::new(alloc);
-    'commands: for command in commands {
+    for command in commands {
         let next_reply = run_command(table, *command)?;
         answer.push(next_reply)?;
     }

@@ -1,5 +1,6 @@
 -- The lines that are written of a total. Each ends in an LF.
 use Rattle.std.specs.Prelude.{ℕ, ◌++◌, List, codes, decimal, if◌then◌else◌}
+use Rattle.totals.specs.declared.total.LinesTotal.{LinesTotal}
 use Rattle.totals.specs.declared.total.Total.{Total}
 
 -- the line of a total alone
@@ -23,6 +24,32 @@ total_tsv_row t =
 abbrev pub total_json_line : Total → List ℕ
 total_json_line t =
     codes "{\"total\":" ++ decimal t.total
+    ++ codes ",\"exact\":" ++ (if t.exact then codes "true" else codes "false")
+    ++ codes ",\"retained\":" ++ decimal t.retained
+    ++ codes ",\"theta\":" ++ decimal t.theta
+    ++ codes "}\n"
+
+-- ---- the total of the numbers of lines, with the number of their keys
+
+abbrev pub lines_total_line : LinesTotal → List ℕ
+lines_total_line t = decimal t.total ++ codes "\n"
+
+abbrev pub lines_total_tsv_head : List ℕ
+lines_total_tsv_head = codes "total\tkeys\texact\tretained\ttheta\n"
+
+abbrev pub lines_total_tsv_row : LinesTotal → List ℕ
+lines_total_tsv_row t =
+    decimal t.total
+    ++ codes "\t" ++ decimal t.keys
+    ++ codes "\t" ++ (if t.exact then codes "true" else codes "false")
+    ++ codes "\t" ++ decimal t.retained
+    ++ codes "\t" ++ decimal t.theta
+    ++ codes "\n"
+
+abbrev pub lines_total_json_line : LinesTotal → List ℕ
+lines_total_json_line t =
+    codes "{\"total\":" ++ decimal t.total
+    ++ codes ",\"keys\":" ++ decimal t.keys
     ++ codes ",\"exact\":" ++ (if t.exact then codes "true" else codes "false")
     ++ codes ",\"retained\":" ++ decimal t.retained
     ++ codes ",\"theta\":" ++ decimal t.theta

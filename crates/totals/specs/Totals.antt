@@ -4,6 +4,7 @@ use Rattle.core_compact.specs.CompactState.{Compact}
 use Rattle.core_laws.specs.declared.TheConstants.{MAX_THETA}
 use Rattle.core_slots.specs.declared.entry.TupleEntry.{TupleEntry}
 use Rattle.estimates.specs.Fraction.{nearest}
+use Rattle.totals.specs.declared.total.LinesTotal.{LinesTotal}
 use Rattle.totals.specs.declared.total.Total.{Total}
 
 -- the sum of the sums of entries
@@ -28,3 +29,13 @@ total_of s = record {
 pub record IsTotalOf (es : List (TupleEntry ℕ)) (t : Total) : Type 0 where
   pub at_least : sum_of es ≤ t.total
   pub if_exact : t.exact ≡ true → t.total ≡ sum_of es
+
+-- the exact total of what lines add, beside the number of their keys, which the sketch of their sums estimates
+unfoldable pub lines_total : Compact (TupleEntry ℕ) → (total : ℕ) → LinesTotal
+lines_total s total = record {
+  total = total;
+  keys = nearest (length s.entries * MAX_THETA) s.theta;
+  exact = s.theta == MAX_THETA;
+  retained = length s.entries;
+  theta = s.theta;
+}

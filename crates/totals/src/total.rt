@@ -1,6 +1,6 @@
 //! The estimated total of the values of a stream, from a sketch of sums.
 ghost use Rattle.std.specs.Prelude.{◌≡◌, ◌<◌, ◌≤◌, ◌*◌, ◌-◌, ◌^◌, length};
-ghost use Rattle.totals.specs.Totals.{IsTotalOf, sum_of, total_of};
+ghost use Rattle.totals.specs.Totals.{IsTotalOf, lines_total, sum_of, total_of};
 
 use crate::laws::totals_are_consistent;
 use core_laws::MAX_THETA;
@@ -45,6 +45,36 @@ pub fn total_of<A: Allocator>(sketch: &CompactTupleSketch<u64, A>) -> Total
     let theta = sketch.theta64();
     Total {
         total: nearest_total(sum_of(sketch.iter()), theta),
+        exact: theta == MAX_THETA,
+        retained,
+        theta,
+    }
+}
+
+/// The total of the numbers of lines, and the number of their keys. `lines_total` returns one.
+#[derive(Debug, Clone, Copy, PartialEq, Eq)]
+pub struct LinesTotal {
+    /// The exact total of the numbers of all lines, below 2^128.
+    pub total: u128,
+    /// The estimated number of keys, rounded to the nearest whole number; a half is rounded up.
+    pub keys: u128,
+    /// Whether the number of keys is exact: the sketch dropped no key.
+    pub exact: bool,
+    /// How many keys the sketch retains, fewer than 2^32.
+    pub retained: usize,
+    /// The theta of the sketch, from 1 to `MAX_THETA`.
+    pub theta: u64,
+}
+
+/// The total of lines, which is passed on, and the number of their keys, by the sketch of their sums.
+pub fn lines_total<A: Allocator>(sketch: &CompactTupleSketch<u64, A>, total: u128) -> LinesTotal
+    ensures { result ≡ lines_total sketch.now total }
+{
+    let retained = sketch.num_retained();
+    let theta = sketch.theta64();
+    LinesTotal {
+        total,
+        keys: nearest_total(retained as u128, theta),
         exact: theta == MAX_THETA,
         retained,
         theta,

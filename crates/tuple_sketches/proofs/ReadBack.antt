@@ -1,15 +1,20 @@
 -- What was written is read as the sketch that was written.
 use Rattle.std.proofs.Common.{◌≡◌, ℕ, ◌<◌, ◌^◌, List, [], ◌++◌, inl, refl, subst, append-nil}
 use Rattle.core_compact.specs.CompactState.{Compact, IsCompact}
+use Rattle.core_images.specs.Head.{tuple_head}
 use Rattle.core_images.specs.Summary.{SpellsTuple, is_tuple_value, tuple_text}
 use Rattle.core_images.specs.SummarySpelling.{one_tuple, tuple_written}
-use Rattle.core_images.proofs.ImageLayouts.{comes_one}
+use Rattle.core_images.proofs.ImageLayouts.{heads_one}
 use Rattle.core_images.proofs.ReadAgain.{written_again}
 use Rattle.core_slots.specs.Entry.{tuple_key}
 use Rattle.core_slots.specs.declared.entry.TupleEntry.{TupleEntry}
 use Rattle.tuple_sketches.specs.Image.{SpellsSketch, Reads, HasValues, written}
-use Rattle.tuple_sketches.specs.ImageLayout.{tuple_layout}
 use Rattle.tuple_sketches.proofs.ImageLayouts.{tuple_from}
+
+-- bytes spell at most one sketch
+pub read_once : {S : Type 0} (spells : List ℕ → S → Type 0) (one_spelling : (a b u v : List ℕ) (x y : S) → spells a x → spells b y → a ++ u ≡ b ++ v → (a ≡ b) × (x ≡ y)) (bytes : List ℕ) (h : ℕ) (r s : Compact (TupleEntry S)) → SpellsSketch spells bytes h r → SpellsSketch spells bytes h s → r ≡ s
+read_once spells one_spelling bytes h r s p q =
+    heads_one tuple_key (SpellsTuple spells) bytes h (one_tuple spells one_spelling) (tuple_head 8 bytes) r s (tuple_from spells bytes h 8 r p) (tuple_from spells bytes h 8 s q)
 
 module _ {S : Type 0} (spells : List ℕ → S → Type 0) (text : S → List ℕ) (IsValue : S → Type 0) (text_spells : (x : S) → IsValue x → spells (text x) x) where
   -- the image of a sketch spells it, whatever bytes follow
@@ -23,4 +28,4 @@ module _ {S : Type 0} (spells : List ℕ → S → Type 0) (text : S → List �
   read_back one_spelling r s w values high reads =
       let h : ℕ = r.seed_hash in
       let again : SpellsSketch spells (written text r) h r = subst (λ bytes. SpellsSketch spells bytes h r) (append-nil (written text r)) (spells_again r [] w values high) in
-      comes_one tuple_key (SpellsTuple spells) (written text r) h (one_tuple spells one_spelling) (tuple_layout (written text r) h) s r (tuple_from spells (written text r) h s reads.spelled) (tuple_from spells (written text r) h r again)
+      read_once spells one_spelling (written text r) h s r reads.spelled again

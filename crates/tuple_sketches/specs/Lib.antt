@@ -1,5 +1,4 @@
 pub mod Image
-pub mod ImageLayout
 pub mod Sketch
 pub mod Given
 pub mod Sums

@@ -2,24 +2,26 @@
 //!
 //! Each hash is followed by its summary's bytes. Serial version 3 with sketch type 1 is written; both are read, and
 //! so are the older version 1 and sketch type 5, in any combination.
-ghost use Rattle.std.specs.Prelude.{◌≡◌, ◌≤◌, ◌+◌, ◌-◌, ◌^◌, min, None, true, length, IfOk, IfErr, OnOk};
+ghost use Rattle.std.specs.Prelude.{◌≡◌, ◌≤◌, ◌<◌, ◌+◌, ◌-◌, ◌^◌, ℕ, List, Some, None, true, min, length};
+ghost use Rattle.std.specs.Prelude.{IfOk, IfErr, OnOk};
 ghost use Rattle.std.specs.List.{flat_map};
 ghost use Rattle.sketch_base.specs.Seed.{seed_hash};
 ghost use Rattle.sketch_base.specs.declared.seed.TheConstants.{DEFAULT_UPDATE_SEED};
 ghost use Rattle.core_compact.specs.CompactState.{Compact};
-ghost use Rattle.core_images.specs.Read.{IsRefused};
-ghost use Rattle.core_images.specs.Summary.{tuple_text};
+ghost use Rattle.core_images.specs.Head.{tuple_flaw, tuple_head, length_of};
+ghost use Rattle.core_images.specs.Read.{IsRefused, IsUnread};
+ghost use Rattle.core_images.specs.Summary.{SpellsTuple, tuple_text};
 ghost use Rattle.core_laws.specs.Refusal.{Refuses};
 ghost use Rattle.core_slots.specs.declared.entry.TupleEntry.{TupleEntry};
-ghost use Rattle.tuple_sketches.specs.Image.{Reads, IsReadable, HasValues, written};
-ghost use Rattle.tuple_sketches.specs.ImageLayout.{is_read_version, is_sketch_type, tuple_layout};
+ghost use Rattle.tuple_sketches.specs.Image.{Reads, IsReadable, BeginsWith, HasValues, written};
 
 use crate::compact_sketch::CompactTupleSketch;
 use core_images::{
-    ImageLayout, TupleSummaryValue, flagged_layout, read_after_preamble, write_image_with_capacity,
+    ReadError, TupleSummaryValue, layout_of, length_of, read_after_preamble, reader_seed_hash,
+    tuple_head, write_image_with_capacity,
 };
 use core_slots::TupleEntry;
-use sketch_base::{DEFAULT_UPDATE_SEED, Error, ErrorKind, Family, compute_seed_hash};
+use sketch_base::{DEFAULT_UPDATE_SEED, Error, Family};
 use std::alloc::Allocator;
 
 /// The version of written images, in byte 1 of an image.
@@ -37,47 +39,39 @@ pub const SKETCH_TYPE_LEGACY: u8 = 5;
 /// The image of an empty sketch, whatever its seed.
 pub const EMPTY_SKETCH_BYTES: [u8; 8] = [1, 3, 9, 1, 0, 0x1e, 0, 0];
 
-/// Whether images of this version are read.
-fn is_version(version: u8) -> bool
-    ensures { result ≡ is_read_version version }
-{
-    version == SERIAL_VERSION || version == SERIAL_VERSION_LEGACY
-}
-
-/// Whether images of this sketch type are read.
-fn is_sketch_type(kind: u8) -> bool
-    ensures { result ≡ is_sketch_type kind }
-{
-    kind == SKETCH_TYPE || kind == SKETCH_TYPE_LEGACY
-}
-
-/// The layout of an image by its preamble, or `None` if it isn't a tuple sketch with 1 to 3 preamble longs and with a
-/// version and sketch type that are read, or if `flagged_layout` is `None`.
-#[tactic(auto, unfolding(crate::specs::ImageLayout::tuple_layout))]
-fn tuple_layout(bytes: &[u8], seed_hash: u16) -> Option<ImageLayout>
-    ensures { result ≡ tuple_layout bytes.now seed_hash }
-{
-    if bytes.len() < 8 || !(1 <= bytes[0] && bytes[0] <= 3) || bytes[2] != 9 {
-        return None;
-    }
-    if is_version(bytes[1]) && is_sketch_type(bytes[3]) {
-        flagged_layout(bytes, bytes[0], seed_hash)
-    } else {
-        None
-    }
-}
-
 /// The number of bytes of an image of these entries with a preamble of three longs; 2^64 - 1 if it is greater.
 fn greatest_size<S: TupleSummaryValue<A>, A: Allocator>(entries: &[TupleEntry<S>]) -> usize
     ensures { result ≡ min (24 + length (flat_map (tuple_text S.text) entries.now)) (2 ^ 64 - 1) }
 {
     let mut size = 24usize;
-    'add_each: for entry in entries {
+    for entry in entries {
         size = size
             .saturating_add(8)
             .saturating_add(entry.summary().serialize_size());
     }
     size
+}
+
+/// Reads the sketch that the bytes begin with, whose entries have at least `size` bytes each, and returns it with the
+/// length of an image with so many. A flaw is returned as `CompactTupleSketch::read_with_seed` returns it.
+fn read_sized<S: TupleSummaryValue<A> + Drop, A: Allocator + Clone + Drop>(
+    alloc: A,
+    bytes: &[u8],
+    seed: u64,
+    size: u16,
+) -> Result<(CompactTupleSketch<S, A>, u64), ReadError>
+    requires long { (a : List ℕ) (x : TupleEntry S) → SpellsTuple S.spells a x → size ≤ length a }
+    ensures ok { IfOk result (λ r. Reads S.spells bytes.now (seed_hash seed) r.0) }
+    ensures length { IfOk result (λ r. length_of (tuple_head size bytes.now) ≡ Some r.1) }
+    ensures flawed { IfErr result (
+        IsUnread (IsReadable S.spells bytes.now (seed_hash seed)) (tuple_flaw size (seed_hash seed) bytes.now)) }
+{
+    let seed_hash = reader_seed_hash(seed);
+    let head = tuple_head(size, bytes);
+    let layout = layout_of(seed_hash, bytes.len(), head);
+    let state = read_after_preamble(alloc, bytes, layout, seed_hash)?;
+    let length = length_of(head).unwrap_or(0);
+    Ok((CompactTupleSketch::of_state(state), length))
 }
 
 impl<S: TupleSummaryValue<A> + Drop, A: Allocator + Clone + Drop> CompactTupleSketch<S, A> {
@@ -113,20 +107,39 @@ impl<S: TupleSummaryValue<A> + Drop, A: Allocator + Clone + Drop> CompactTupleSk
 
     /// Reads the sketch that the bytes begin with, under this seed. Bytes after the image are ignored.
     ///
-    /// Refused with `InvalidData` only if the seed hash is 0 or the bytes begin with no sketch: they end too early,
-    /// have another family, version or sketch type, don't have 1 to 3 preamble longs, have another seed hash, a theta
-    /// that isn't from 1 to `MAX_THETA`, hashes that repeat, don't ascend though the image is ordered, or aren't from
-    /// 1 to below theta, or bytes after a hash that spell no summary. The seed hash of an empty sketch is not
-    /// checked. Refused with `OutOfMemory` if memory runs out, also for such bytes: it allocates at most as many
-    /// entries as the bytes could fill with their hashes, eight bytes per entry to compare hashes that don't ascend,
-    /// and what reading summaries allocates.
-    #[tactic(auto, using(crate::proofs::ImageLayouts::tuple_whole))]
+    /// Refused with `InvalidData` only if the seed hash is 0 or the bytes begin with no sketch: for one of the reasons
+    /// that `read_with_seed` returns, or since bytes after a hash spell no summary. Refused with `OutOfMemory` if
+    /// memory runs out, also for such bytes: it allocates at most as many entries as the bytes could fill with their
+    /// hashes, eight bytes per entry to compare hashes that don't ascend, and what reading summaries allocates.
     pub fn deserialize_with_seed(alloc: A, bytes: &[u8], seed: u64) -> Result<Self, Error>
         ensures ok { IfOk result (λ s. Reads S.spells bytes.now (seed_hash seed) s) }
         ensures refused { IfErr result (λ e. IsRefused e (IsReadable S.spells bytes.now (seed_hash seed))) }
     {
-        let seed_hash = compute_seed_hash(seed, ErrorKind::InvalidData)?;
-        let state = read_after_preamble(alloc, bytes, tuple_layout(bytes, seed_hash), seed_hash)?;
-        Ok(CompactTupleSketch::of_state(state))
+        let (sketch, _) = read_sized::<S, A>(alloc, bytes, seed, 8)?;
+        Ok(sketch)
+    }
+
+    /// Reads the sketch that the bytes begin with, under this seed, and returns it with the length of its image in
+    /// bytes. What follows the image is ignored. Each summary is spelled by `size` bytes.
+    ///
+    /// If the bytes begin with no sketch, it returns their first flaw: they end too early, have another family, version
+    /// or sketch type, don't have 1 to 3 preamble longs, have another seed hash, a theta that isn't from 1 to
+    /// `MAX_THETA`, hashes that repeat, don't ascend though the image is ordered, or aren't from 1 to below theta, or
+    /// bytes after a hash that spell no summary. The seed hash of an empty sketch is not checked, but no image is read
+    /// if the seed's is 0. It returns `OutOfMemory` as `deserialize_with_seed` does.
+    pub fn read_with_seed(
+        alloc: A,
+        bytes: &[u8],
+        seed: u64,
+        size: u16,
+    ) -> Result<(Self, u64), ReadError>
+        requires small { size < 2 ^ 15 }
+        requires sized { (text : List ℕ) (x : S) → S.spells text x → length text ≡ size }
+        ensures ok { IfOk result (λ r. Reads S.spells bytes.now (seed_hash seed) r.0) }
+        ensures begins { IfOk result (λ r. BeginsWith S.spells (8 + size) bytes.now (seed_hash seed) r.1 r.0) }
+        ensures flawed { IfErr result (
+            IsUnread (IsReadable S.spells bytes.now (seed_hash seed)) (tuple_flaw (8 + size) (seed_hash seed) bytes.now)) }
+    {
+        read_sized::<S, A>(alloc, bytes, seed, 8 + size)
     }
 }

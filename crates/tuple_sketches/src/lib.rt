@@ -85,7 +85,7 @@ mod view;
 pub use a_not_b::TupleANotB;
 pub use builder::TupleSketchBuilder;
 pub use compact_sketch::CompactTupleSketch;
-pub use core_images::TupleSummaryValue;
+pub use core_images::{Flaw, ReadError, TupleSummaryValue};
 pub use core_laws::MAX_THETA;
 pub use core_policies::{
     CheckedSum, DefaultUnionPolicy, DefaultUpdatePolicy, SummaryCombinePolicy, SummaryPolicy,

@@ -9,8 +9,6 @@ use std::hash::{Hash, Hasher};
 /// The seed that all implementations of the DataSketches format use if no other is passed.
 pub const DEFAULT_UPDATE_SEED: u64 = 9001;
 
-const DEFAULT_SEED_HASH: u16 = 0x93cc;
-
 /// How many bytes are gathered without memory.
 const SMALL: usize = 64;
 
@@ -65,30 +63,14 @@ impl Hasher for Gathered {
     }
 }
 
-/// The hash of a seed, of 16 bits and not 0, or an error of this kind. No call returns it, but an image has it.
+/// The hash of a seed, of 16 bits and not 0, or an error of this kind.
 pub(crate) fn seed_hash(seed: u64, kind: ErrorKind) -> Result<u16, Error> {
-    if seed == DEFAULT_UPDATE_SEED {
-        return Ok(DEFAULT_SEED_HASH);
-    }
-    let mut sketch = border::Theta::new(4, seed, 1, crate::state::MAX_THETA).map_err(|error| match error.kind() {
-        ErrorKind::InvalidArgument => Error::new(kind, format!("the seed {seed} has the hash 0: choose another")),
-        _ => error,
-    })?;
-    sketch.update_hash(1)?;
-    let image = sketch.image()?;
-    Ok(u16::from_le_bytes([image[6], image[7]]))
+    border::seed_hash(seed).ok_or_else(|| Error::new(kind, format!("the seed {seed} has the hash 0: choose another")))
 }
 
 #[cfg(test)]
 mod tests {
     use super::*;
-
-    #[test]
-    fn default_seed_has_its_hash() {
-        let mut sketch = border::Theta::new(4, DEFAULT_UPDATE_SEED, 1, 1).unwrap();
-        sketch.update_hash(1).unwrap();
-        assert_eq!(&sketch.image().unwrap()[6..8], &DEFAULT_SEED_HASH.to_le_bytes());
-    }
 
     #[test]
     fn bytes_are_gathered_whole() {

@@ -5,7 +5,7 @@ use super::{CompactThetaSketch, ThetaSketchView};
 use crate::border;
 use crate::error::{must, Error, ErrorKind};
 use crate::hash::{seed_hash, DEFAULT_UPDATE_SEED};
-use std::ops::Deref;
+use crate::lent::Lent;
 
 /// Differences of theta sketches: the hashes of a that b lacks, below the lesser theta.
 ///
@@ -32,28 +32,11 @@ impl Default for ThetaANotB {
     }
 }
 
-/// A compact sketch of the C library, of the caller's or made for the call.
-enum Side<'a> {
-    Made(border::Compact),
-    Given(&'a border::Compact),
-}
-
-impl Deref for Side<'_> {
-    type Target = border::Compact;
-
-    fn deref(&self) -> &border::Compact {
-        match self {
-            Self::Made(object) => object,
-            Self::Given(object) => object,
-        }
+fn form(view: ThetaSketchView<'_>) -> Result<Lent<'_, border::Compact>, Error> {
+    match view.0 {
+        Viewed::Sketch(sketch) => sketch.object.compact(false).map(Lent::Made),
+        Viewed::Form(form) => Ok(Lent::Given(form.object())),
     }
-}
-
-fn side(view: ThetaSketchView<'_>) -> Result<Side<'_>, Error> {
-    Ok(match view.0 {
-        Viewed::Sketch(sketch) => Side::Made(sketch.object.compact()?),
-        Viewed::Form(form) => Side::Given(form.object()),
-    })
 }
 
 impl ThetaANotB {
@@ -78,13 +61,14 @@ impl ThetaANotB {
         ordered: bool,
     ) -> Result<CompactThetaSketch, Error> {
         let (a, b) = (a.into(), b.into());
-        let (first, mut second) = (side(a)?, side(b)?);
-        if std::ptr::eq(&*first, &*second) {
-            second = Side::Made(second.copy()?);
-        }
-        let made = first.minus(&second, self.seed);
+        let made = match (a.0, b.0) {
+            (Viewed::Sketch(first), Viewed::Sketch(second)) if ordered => {
+                first.object.minus_updated(&second.object, self.seed)
+            }
+            _ => form(a)?.minus(&*form(b)?, self.seed, ordered),
+        };
         let made = made.map_err(|error| a.refusal(b.refusal(error, self.seed_hash), self.seed_hash))?;
-        let seed_hash = if a.is_empty() { a.seed_hash() } else { self.seed_hash };
-        Ok(CompactThetaSketch::made(made, seed_hash, ordered || a.is_ordered()))
+        // The form of a sketch of one hash is ordered, and the sketch isn't.
+        made.promising(ordered || a.is_ordered(), self.seed).map(CompactThetaSketch::of)
     }
 }

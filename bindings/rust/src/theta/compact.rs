@@ -6,37 +6,33 @@ use crate::border::{self, State};
 use crate::common::NumStdDev;
 use crate::error::{must, Error, ErrorKind};
 use crate::hash::{seed_hash, DEFAULT_UPDATE_SEED};
-use crate::images::{hashes_of, says_ordered, unordered};
 use std::fmt;
-use std::sync::{Arc, OnceLock};
+use std::sync::Arc;
 
 /// A theta sketch that never changes, and has an image. A clone shares the hashes with it.
 #[derive(Clone)]
 pub struct CompactThetaSketch {
     kept: Arc<Kept>,
-    ordered: bool,
-    seed_hash: u16,
 }
 
 struct Kept {
     object: border::Compact,
     state: State,
-    /// The hashes, once somebody has asked for them.
-    hashes: OnceLock<Vec<u64>>,
 }
 
 impl fmt::Debug for CompactThetaSketch {
     fn fmt(&self, f: &mut fmt::Formatter<'_>) -> fmt::Result {
-        f.debug_struct("CompactThetaSketch").field("state", &self.kept.state).field("ordered", &self.ordered).finish()
+        f.debug_struct("CompactThetaSketch")
+            .field("state", &self.kept.state)
+            .field("ordered", &self.is_ordered())
+            .finish()
     }
 }
 
 impl CompactThetaSketch {
-    /// A sketch that the C library has just made, whose hashes ascend. It says so if it is asked to, or is trivial.
-    pub(super) fn made(object: border::Compact, seed_hash: u16, ordered: bool) -> Self {
+    pub(super) fn of(object: border::Compact) -> Self {
         let state = object.state();
-        let ordered = ordered || state.is_trivial();
-        Self { kept: Arc::new(Kept { object, state, hashes: OnceLock::new() }), ordered, seed_hash }
+        Self { kept: Arc::new(Kept { object, state }) }
     }
 
     pub(super) fn object(&self) -> &border::Compact {
@@ -80,15 +76,15 @@ impl CompactThetaSketch {
 
     /// Whether the sketch promises that its hashes ascend.
     pub fn is_ordered(&self) -> bool {
-        self.ordered
+        self.kept.object.is_ordered()
     }
 
     /// The hash of the seed, of 16 bits.
     pub fn seed_hash(&self) -> u16 {
-        self.seed_hash
+        self.kept.object.seed_hash()
     }
 
-    /// The retained entries, in the order of the image. The first call copies them, and the sketch keeps the copy.
+    /// The retained entries, in the order of the image. Each call copies the hashes once.
     ///
     /// # Panics
     ///
@@ -102,15 +98,8 @@ impl CompactThetaSketch {
         self.entries()
     }
 
-    pub(super) fn entries(&self) -> Result<Entries<'_>, Error> {
-        let hashes = match self.kept.hashes.get() {
-            Some(hashes) => hashes,
-            None => {
-                let hashes = hashes_of(&self.kept.object.image()?)?;
-                self.kept.hashes.get_or_init(|| hashes)
-            }
-        };
-        Ok(Entries::Kept(hashes.iter()))
+    pub(super) fn entries(&self) -> Result<Entries, Error> {
+        self.kept.object.hashes().map(Entries::of)
     }
 
     /// A lower bound of how many different values there were, a whole number (`datasketches` has another interval).
@@ -134,8 +123,7 @@ impl CompactThetaSketch {
 
     /// The image, or `OutOfMemory`.
     pub fn try_serialize(&self) -> Result<Vec<u8>, Error> {
-        let image = self.kept.object.image()?;
-        Ok(if self.ordered { image } else { unordered(image) })
+        self.kept.object.image()
     }
 
     /// The sketch whose image the bytes begin with, under the default seed.
@@ -155,17 +143,12 @@ impl CompactThetaSketch {
     /// `InvalidData` if the bytes begin with no sketch of this seed, repeated hashes and hashes that don't ascend
     /// though the image says so included, or if the hash of the seed is 0; `OutOfMemory`.
     pub fn deserialize_with_seed(bytes: &[u8], seed: u64) -> Result<Self, Error> {
-        let seed_hash = seed_hash(seed, ErrorKind::InvalidData)?;
-        let object = border::Compact::of_image(bytes, seed)?;
-        // What older images promise is read from the image of what they are.
-        let ordered = if bytes[1] == 3 { says_ordered(bytes) } else { says_ordered(&object.image()?) };
-        let state = object.state();
-        Ok(Self { kept: Arc::new(Kept { object, state, hashes: OnceLock::new() }), ordered, seed_hash })
+        seed_hash(seed, ErrorKind::InvalidData)?;
+        border::Compact::of_image(bytes, seed).map(Self::of)
     }
 
-    /// About how many bytes of memory the hashes have.
+    /// How many bytes of memory the hashes have.
     pub fn estimated_size(&self) -> usize {
-        let copied = self.kept.hashes.get().map_or(0, Vec::capacity);
-        8 * (self.num_retained() + copied)
+        self.kept.object.estimated_size()
     }
 }

@@ -12,13 +12,12 @@ use std::fmt;
 pub struct ThetaIntersection {
     object: border::Intersection,
     seed_hash: u16,
-    /// How many hashes it retains at most, once it has a value.
-    most: Option<usize>,
+    begun: bool,
 }
 
 impl fmt::Debug for ThetaIntersection {
     fn fmt(&self, f: &mut fmt::Formatter<'_>) -> fmt::Result {
-        f.debug_struct("ThetaIntersection").field("has_result", &self.has_result()).finish_non_exhaustive()
+        f.debug_struct("ThetaIntersection").field("has_result", &self.begun).finish_non_exhaustive()
     }
 }
 
@@ -38,7 +37,7 @@ impl ThetaIntersection {
     /// `InvalidArgument` if the hash of the seed is 0; `OutOfMemory`.
     pub fn with_seed(seed: u64) -> Result<Self, Error> {
         let seed_hash = seed_hash(seed, ErrorKind::InvalidArgument)?;
-        Ok(Self { object: border::Intersection::intersection(seed)?, seed_hash, most: None })
+        Ok(Self { object: border::Intersection::intersection(seed)?, seed_hash, begun: false })
     }
 
     /// Intersects with a sketch.
@@ -54,19 +53,18 @@ impl ThetaIntersection {
             Viewed::Form(form) => self.object.add_form(form.object()),
         };
         added.map_err(|error| view.refusal(error, self.seed_hash))?;
-        let retained = view.num_retained();
-        self.most = Some(self.most.map_or(retained, |most| most.min(retained)));
+        self.begun = true;
         Ok(())
     }
 
     /// Whether there was a sketch.
     pub fn has_result(&self) -> bool {
-        self.most.is_some()
+        self.begun
     }
 
-    /// How many bytes of memory the hashes have at most.
+    /// How many bytes of memory the hashes have.
     pub fn estimated_size(&self) -> usize {
-        8 * self.most.unwrap_or(0)
+        self.object.estimated_size()
     }
 
     /// The intersection as a compact sketch, or `None` before the first sketch; `ordered` as in
@@ -81,9 +79,9 @@ impl ThetaIntersection {
 
     /// The intersection, or `OutOfMemory`.
     pub fn try_to_sketch(&self, ordered: bool) -> Result<Option<CompactThetaSketch>, Error> {
-        if !self.has_result() {
+        if !self.begun {
             return Ok(None);
         }
-        Ok(Some(CompactThetaSketch::made(self.object.result()?, self.seed_hash, ordered)))
+        self.object.result(ordered).map(|it| Some(CompactThetaSketch::of(it)))
     }
 }

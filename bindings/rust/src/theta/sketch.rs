@@ -6,9 +6,7 @@ use crate::border;
 use crate::common::{NumStdDev, ResizeFactor};
 use crate::error::{must, Error};
 use crate::hash::Gathered;
-use crate::images::hashes_of;
 use crate::settings::{setters, Checked, Settings, Start};
-use crate::table::estimated_slots;
 use std::fmt;
 use std::hash::Hash;
 
@@ -100,7 +98,7 @@ impl ThetaSketch {
 
     /// The hash of the seed, of 16 bits.
     pub fn seed_hash(&self) -> u16 {
-        self.settings.seed_hash
+        self.settings.seed_hash()
     }
 
     /// Whether there was no update since the sketch was new or reset.
@@ -147,7 +145,7 @@ impl ThetaSketch {
         self.object.reset();
     }
 
-    /// The retained entries, in ascending order of their hashes (in `datasketches` in that of its slots).
+    /// The retained entries, in no order that is promised. Each call copies the hashes once.
     ///
     /// # Panics
     ///
@@ -161,13 +159,12 @@ impl ThetaSketch {
         self.entries()
     }
 
-    pub(super) fn entries(&self) -> Result<Entries<'static>, Error> {
-        // One call copies them all, so that no other thread's call comes between.
-        hashes_of(&self.object.image()?).map(|hashes| Entries::Copied(hashes.into_iter()))
+    pub(super) fn entries(&self) -> Result<Entries, Error> {
+        self.object.hashes().map(Entries::of)
     }
 
-    /// The compact form, of the same hashes and theta. Its hashes ascend; `ordered` decides whether it says so. If
-    /// there is one hash or none and theta is 2^63 - 1, it is ordered anyway.
+    /// The compact form, of the same hashes and theta. If it is `ordered`, its hashes ascend; else they are in any
+    /// order, which is faster. An empty one, or one of one hash whose theta is 2^63 - 1, is ordered anyway.
     ///
     /// # Panics
     ///
@@ -178,7 +175,7 @@ impl ThetaSketch {
 
     /// The compact form, or `OutOfMemory`.
     pub fn try_compact(&self, ordered: bool) -> Result<CompactThetaSketch, Error> {
-        Ok(CompactThetaSketch::made(self.object.compact()?, self.settings.seed_hash, ordered))
+        self.object.compact(ordered).map(CompactThetaSketch::of)
     }
 
     /// A lower bound of how many different values there were, a whole number (`datasketches` has another interval).
@@ -191,9 +188,9 @@ impl ThetaSketch {
         self.object.state().upper_bound(num_std_dev)
     }
 
-    /// About how many bytes of memory the sketch has: its slots, of eight bytes.
+    /// How many bytes of memory the slots have.
     pub fn estimated_size(&self) -> usize {
-        8 * estimated_slots(&self.settings, self.object.state())
+        self.object.estimated_size()
     }
 }
 
@@ -221,7 +218,8 @@ impl ThetaSketchBuilder {
     /// `InvalidArgument` if a setting is out of range or the hash of the seed is 0; `OutOfMemory`.
     pub fn build(self) -> Result<ThetaSketch, Error> {
         let settings = self.settings.checked()?;
-        let object = border::Theta::new(settings.lg_k, settings.seed, settings.factor, settings.start)?;
+        let object = border::Theta::new(settings.lg_k, settings.seed, settings.factor, settings.start)
+            .map_err(|error| settings.refusal(error))?;
         Ok(ThetaSketch { object, settings })
     }
 }

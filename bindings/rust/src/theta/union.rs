@@ -2,20 +2,16 @@
 
 use super::view::Viewed;
 use super::{CompactThetaSketch, ThetaSketchView};
-use crate::border::{self, State};
+use crate::border;
 use crate::common::ResizeFactor;
 use crate::error::{must, Error};
-use crate::images::theta_image;
 use crate::settings::{setters, Checked, Settings, Start};
-use crate::state::MAX_THETA;
 use std::fmt;
 
 /// A union of theta sketches: the hashes of all of them below their least theta, at most k of them.
 pub struct ThetaUnion {
     object: border::Union,
     settings: Checked,
-    /// Whether the starting theta has been merged: no call makes a union that begins at one.
-    begun: bool,
 }
 
 impl fmt::Debug for ThetaUnion {
@@ -37,14 +33,7 @@ impl ThetaUnion {
             Viewed::Sketch(sketch) => self.object.add(&sketch.object),
             Viewed::Form(form) => self.object.add_form(form.object()),
         };
-        added.map_err(|error| view.refusal(error, self.settings.seed_hash))?;
-        if !self.begun && !view.is_empty() {
-            if self.settings.start < MAX_THETA {
-                self.object.add_image(&start_image(&self.settings)?)?;
-            }
-            self.begun = true;
-        }
-        Ok(())
+        added.map_err(|error| view.refusal(error, self.settings.seed_hash()))
     }
 
     /// The union's value as a compact sketch; `ordered` as in [`ThetaSketch::compact`](super::ThetaSketch::compact).
@@ -62,24 +51,18 @@ impl ThetaUnion {
     ///
     /// `Failed` if the union has failed; `OutOfMemory`.
     pub fn try_to_sketch(&self, ordered: bool) -> Result<CompactThetaSketch, Error> {
-        Ok(CompactThetaSketch::made(self.object.result()?, self.settings.seed_hash, ordered))
+        self.object.result(ordered).map(CompactThetaSketch::of)
     }
 
     /// Makes the union empty again, as when it was new, and ends a failure.
     pub fn reset(&mut self) {
         self.object.reset_union();
-        self.begun = false;
     }
 
-    /// How many bytes of memory the slots have at most.
+    /// How many bytes of memory the slots have.
     pub fn estimated_size(&self) -> usize {
-        8 << (self.settings.lg_k + 1)
+        self.object.estimated_size()
     }
-}
-
-/// The image of a sketch that retains nothing, at the starting theta.
-pub(crate) fn start_image(settings: &Checked) -> Result<Vec<u8>, Error> {
-    theta_image(State { retained: 0, theta: settings.start, empty: 0 }, true, settings.seed_hash, std::iter::empty())
 }
 
 /// Builds a [`ThetaUnion`]. Settings are checked by [`build`](Self::build).
@@ -105,6 +88,8 @@ impl ThetaUnionBuilder {
     /// `InvalidArgument` if a setting is out of range or the hash of the seed is 0; `OutOfMemory`.
     pub fn build(self) -> Result<ThetaUnion, Error> {
         let settings = self.settings.checked()?;
-        Ok(ThetaUnion { object: border::Union::union(settings.lg_k, settings.seed)?, settings, begun: false })
+        let object = border::Union::union(settings.lg_k, settings.seed, settings.factor, settings.start)
+            .map_err(|error| settings.refusal(error))?;
+        Ok(ThetaUnion { object, settings })
     }
 }

@@ -3,7 +3,7 @@
 use super::{CompactThetaSketch, ThetaSketch};
 use crate::error::{must, Error, ErrorKind};
 use std::num::NonZeroU64;
-use std::{slice, vec};
+use std::vec;
 
 /// A retained entry: a hash from 1 to 2^63 - 2.
 #[derive(Debug, Clone, Copy)]
@@ -12,6 +12,7 @@ pub struct ThetaEntry {
 }
 
 impl ThetaEntry {
+    #[inline]
     fn of(hash: u64) -> Self {
         Self { hash: NonZeroU64::new(hash).expect("a retained hash is not 0") }
     }
@@ -22,28 +23,25 @@ impl ThetaEntry {
     }
 }
 
-/// The entries of a sketch.
-pub(super) enum Entries<'a> {
-    Copied(vec::IntoIter<u64>),
-    Kept(slice::Iter<'a, u64>),
+/// The entries of a sketch, as the C library has copied them.
+pub(super) struct Entries(vec::IntoIter<u64>);
+
+impl Entries {
+    pub(super) fn of(hashes: Vec<u64>) -> Self {
+        Self(hashes.into_iter())
+    }
 }
 
-impl Iterator for Entries<'_> {
+impl Iterator for Entries {
     type Item = ThetaEntry;
 
+    #[inline]
     fn next(&mut self) -> Option<ThetaEntry> {
-        match self {
-            Self::Copied(hashes) => hashes.next(),
-            Self::Kept(hashes) => hashes.next().copied(),
-        }
-        .map(ThetaEntry::of)
+        self.0.next().map(ThetaEntry::of)
     }
 
     fn size_hint(&self) -> (usize, Option<usize>) {
-        match self {
-            Self::Copied(hashes) => hashes.size_hint(),
-            Self::Kept(hashes) => hashes.size_hint(),
-        }
+        self.0.size_hint()
     }
 }
 
@@ -110,7 +108,7 @@ impl<'a> ThetaSketchView<'a> {
         self.entries()
     }
 
-    fn entries(self) -> Result<Entries<'a>, Error> {
+    fn entries(self) -> Result<Entries, Error> {
         match self.0 {
             Viewed::Sketch(sketch) => sketch.entries(),
             Viewed::Form(form) => form.entries(),

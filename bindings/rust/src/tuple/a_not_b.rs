@@ -1,12 +1,11 @@
 //! The difference.
 
+use super::own::entries_at;
 use super::view::Viewed;
 use super::{CompactTupleSketch, TupleEntry, TupleSketchView};
-use crate::border::{self, State};
+use crate::border::vector;
 use crate::error::{must, Error, ErrorKind};
 use crate::hash::{seed_hash, DEFAULT_UPDATE_SEED};
-use crate::images::hashes_of;
-use std::ops::Deref;
 
 /// Differences of tuple sketches: the entries of a whose keys b lacks, below the lesser theta. Their summaries are
 /// those of a; those of b may be of another type.
@@ -32,31 +31,6 @@ impl Default for TupleANotB {
     fn default() -> Self {
         must(Self::with_seed(DEFAULT_UPDATE_SEED))
     }
-}
-
-/// A compact sketch of sums of the C library, of the caller's or made for the call.
-enum Side<'a> {
-    Made(border::CompactSums),
-    Given(&'a border::CompactSums),
-}
-
-impl Deref for Side<'_> {
-    type Target = border::CompactSums;
-
-    fn deref(&self) -> &border::CompactSums {
-        match self {
-            Self::Made(object) => object,
-            Self::Given(object) => object,
-        }
-    }
-}
-
-/// The sketch, if it is the C library's.
-fn side<S>(view: TupleSketchView<'_, S>) -> Result<Option<Side<'_>>, Error> {
-    Ok(match view.0 {
-        Viewed::Sums(sketch) => Some(Side::Made(sketch.object().compact()?)),
-        _ => view.compact_sums().map(Side::Given),
-    })
 }
 
 impl TupleANotB {
@@ -85,34 +59,45 @@ impl TupleANotB {
         T: 'b,
     {
         let (a, b) = (a.into(), b.into());
+        let promised = ordered || a.is_ordered();
         if a.is_empty() {
-            return Ok(CompactTupleSketch::of_entries(State::EMPTY, a.seed_hash(), ordered, Vec::new()));
+            // It may be of another seed, and keeps that; b isn't looked at.
+            if a.is_of_sums() {
+                let sums = a.sums(self.seed)?;
+                return sums.minus(&sums, self.seed, ordered).map(CompactTupleSketch::of_sums);
+            }
+            let keys = a.keys(self.seed)?;
+            return Ok(CompactTupleSketch::of_keys(keys.minus(&keys, self.seed, ordered)?, Vec::new()));
         }
         a.check_seed(self.seed_hash)?;
         b.check_seed(self.seed_hash)?;
-        let ordered = ordered || a.is_ordered();
-        if let (Some(first), Some(mut second)) = (side(a)?, side(b)?) {
-            if std::ptr::eq(&*first, &*second) {
-                // No call copies a compact sketch of sums.
-                second = Side::Made(border::CompactSums::of_image(&first.image()?, self.seed)?);
-            }
-            return Ok(CompactTupleSketch::of_sums(first.minus(&second, self.seed)?, self.seed_hash, ordered));
+        if let (Viewed::Sums(first), Viewed::Sums(second), true) = (a.0, b.0, ordered) {
+            return first.object().minus_updated(second.object(), self.seed).map(CompactTupleSketch::of_sums);
         }
-        let keys = border::difference_of_images(&a.key_image()?, &b.key_image()?, self.seed)?;
-        let entries = entries_of(a, &hashes_of(&keys)?)?;
-        Ok(CompactTupleSketch::of_entries(border::state_of_image(&keys, self.seed)?, self.seed_hash, ordered, entries))
+        // The form of a sketch of one key is ordered, and the sketch isn't.
+        if a.is_of_sums() && b.is_of_sums() {
+            let sums = a.sums(self.seed)?.minus(&*b.sums(self.seed)?, self.seed, ordered)?;
+            return sums.promising(promised, self.seed).map(CompactTupleSketch::of_sums);
+        }
+        let keys =
+            a.keys(self.seed)?.minus(&*b.keys(self.seed)?, self.seed, ordered)?.promising(promised, self.seed)?;
+        let entries = entries_of(a, &keys.hashes()?)?;
+        Ok(CompactTupleSketch::of_keys(keys, entries))
     }
 }
 
-/// The entries of a sketch that ascending hashes name; all of them are there.
+/// The entries of a sketch at these hashes, in their order; all of them are there.
 fn entries_of<S: Clone>(view: TupleSketchView<'_, S>, hashes: &[u64]) -> Result<Vec<TupleEntry<S>>, Error> {
-    let mut all = Vec::new();
-    all.try_reserve_exact(view.num_retained()).map_err(|_| Error::out_of_memory())?;
+    if let Viewed::Own(sketch) = view.0 {
+        return entries_at(sketch.map(), hashes);
+    }
+    let mut all = vector(view.num_retained())?;
     all.extend(view.entries()?);
     all.sort_unstable_by_key(|it| it.hash());
-    let mut entries = Vec::new();
-    entries.try_reserve_exact(hashes.len()).map_err(|_| Error::out_of_memory())?;
-    let mut rest = all.into_iter();
-    entries.extend(hashes.iter().filter_map(|hash| rest.find(|it| it.hash() == *hash)).cloned());
+    let mut entries = vector(hashes.len())?;
+    entries.extend(hashes.iter().map(|hash| {
+        let at = all.binary_search_by_key(hash, |it| it.hash());
+        all[at.expect("a difference has hashes of its first sketch alone")].clone()
+    }));
     Ok(entries)
 }

@@ -5,11 +5,10 @@ use super::value::TupleSummaryValue;
 use super::view::Entries;
 use super::{TupleEntry, TupleSketchView};
 use crate::border::{self, State};
-use crate::codec::{SketchBytes, SketchSlice};
 use crate::common::NumStdDev;
 use crate::error::{must, Error, ErrorKind};
 use crate::hash::{seed_hash, DEFAULT_UPDATE_SEED};
-use crate::images::{number_at, preamble, says_empty, says_ordered, unordered, TUPLE};
+use crate::images::{parted, with_summaries};
 use std::fmt;
 use std::mem::size_of;
 use std::sync::Arc;
@@ -19,39 +18,42 @@ use std::sync::Arc;
 pub struct CompactTupleSketch<S> {
     pub(super) form: Form<S>,
     pub(super) state: State,
-    ordered: bool,
-    seed_hash: u16,
 }
 
 #[derive(Clone)]
 pub(super) enum Form<S> {
     /// The C library's; then S is u64.
     Sums(Arc<SumsForm>),
-    /// In the order of the image.
-    Own(Vec<TupleEntry<S>>),
+    Own(OwnForm<S>),
+}
+
+/// Entries whose keys are those of a theta sketch of the C library, in its order.
+#[derive(Clone)]
+pub(super) struct OwnForm<S> {
+    pub(super) keys: Arc<border::Compact>,
+    pub(super) entries: Vec<TupleEntry<S>>,
 }
 
 impl<S> fmt::Debug for CompactTupleSketch<S> {
     fn fmt(&self, f: &mut fmt::Formatter<'_>) -> fmt::Result {
         f.debug_struct("CompactTupleSketch")
             .field("state", &self.state)
-            .field("ordered", &self.ordered)
+            .field("ordered", &self.is_ordered())
             .finish_non_exhaustive()
     }
 }
 
 impl<S> CompactTupleSketch<S> {
-    /// A sketch that the C library has just made, whose hashes ascend.
-    pub(super) fn of_sums(object: border::CompactSums, seed_hash: u16, ordered: bool) -> Self {
+    pub(super) fn of_sums(object: border::CompactSums) -> Self {
         let state = object.state();
-        let ordered = ordered || state.is_trivial();
-        Self { form: Form::Sums(Arc::new(SumsForm::of(object))), state, ordered, seed_hash }
+        Self { form: Form::Sums(Arc::new(SumsForm::of(object))), state }
     }
 
-    /// A sketch of entries whose hashes ascend.
-    pub(super) fn of_entries(state: State, seed_hash: u16, ordered: bool, entries: Vec<TupleEntry<S>>) -> Self {
-        assert_eq!(state.retained, entries.len() as u64, "the map has the summaries of all retained hashes");
-        Self { form: Form::Own(entries), state, ordered: ordered || state.is_trivial(), seed_hash }
+    /// A sketch of keys, and of their entries in the order of these.
+    pub(super) fn of_keys(keys: border::Compact, entries: Vec<TupleEntry<S>>) -> Self {
+        let state = keys.state();
+        assert_eq!(state.retained, entries.len() as u64, "each key has its entry");
+        Self { form: Form::Own(OwnForm { keys: Arc::new(keys), entries }), state }
     }
 
     /// A view of the sketch, for unions, intersections and differences.
@@ -91,12 +93,18 @@ impl<S> CompactTupleSketch<S> {
 
     /// Whether the sketch promises that its hashes ascend.
     pub fn is_ordered(&self) -> bool {
-        self.ordered
+        match &self.form {
+            Form::Sums(kept) => kept.object.is_ordered(),
+            Form::Own(form) => form.keys.is_ordered(),
+        }
     }
 
     /// The hash of the seed, of 16 bits.
     pub fn seed_hash(&self) -> u16 {
-        self.seed_hash
+        match &self.form {
+            Form::Sums(kept) => kept.object.seed_hash(),
+            Form::Own(form) => form.keys.seed_hash(),
+        }
     }
 
     /// The retained entries, in the order of the image. Those of sums are copied at the first call, and the sketch
@@ -117,7 +125,7 @@ impl<S> CompactTupleSketch<S> {
     pub(super) fn entries(&self) -> Result<Entries<'_, S>, Error> {
         match &self.form {
             Form::Sums(kept) => kept.entries().map(Entries::of_sums),
-            Form::Own(entries) => Ok(Entries::Slice(entries.iter())),
+            Form::Own(form) => Ok(Entries::Slice(form.entries.iter())),
         }
     }
 
@@ -134,8 +142,8 @@ impl<S> CompactTupleSketch<S> {
     /// About how many bytes of memory the entries have, without what summaries point to.
     pub fn estimated_size(&self) -> usize {
         match &self.form {
-            Form::Sums(kept) => 16 * (self.num_retained() + kept.copied()),
-            Form::Own(entries) => size_of::<TupleEntry<S>>() * entries.capacity(),
+            Form::Sums(kept) => kept.object.estimated_size() + 16 * kept.copied(),
+            Form::Own(form) => form.keys.estimated_size() + size_of::<TupleEntry<S>>() * form.entries.capacity(),
         }
     }
 }
@@ -163,18 +171,11 @@ impl<S: TupleSummaryValue> CompactTupleSketch<S> {
     /// The image, or `OutOfMemory`.
     pub fn try_serialize(&self) -> Result<Vec<u8>, Error> {
         match &self.form {
-            Form::Sums(kept) => {
-                let image = kept.object.image()?;
-                Ok(if self.ordered { image } else { unordered(image) })
-            }
-            Form::Own(entries) => {
-                let room = entries.iter().map(|it| 8 + it.summary.serialize_size()).sum();
-                let mut image = SketchBytes::of(preamble(TUPLE, self.state, self.ordered, self.seed_hash, room)?);
-                for entry in entries {
-                    image.write_u64_le(entry.hash());
-                    entry.summary.serialize_value(&mut image);
-                }
-                Ok(image.into_bytes())
+            Form::Sums(kept) => kept.object.image(),
+            Form::Own(OwnForm { keys, entries }) => {
+                let summaries = entries.iter().map(|it| &it.summary);
+                let room = summaries.clone().map(S::serialize_size).sum();
+                with_summaries(&keys.image()?, summaries, room, S::serialize_value)
             }
         }
     }
@@ -197,50 +198,11 @@ impl<S: TupleSummaryValue> CompactTupleSketch<S> {
     /// though the image says so included, or if the hash of the seed is 0; `OutOfMemory`; those of
     /// [`TupleSummaryValue::deserialize_value`].
     pub fn deserialize_with_seed(bytes: &[u8], seed: u64) -> Result<Self, Error> {
-        let seed_hash = seed_hash(seed, ErrorKind::InvalidData)?;
+        seed_hash(seed, ErrorKind::InvalidData)?;
         if border::is_same::<S, u64>() {
-            let object = border::CompactSums::of_image(bytes, seed)?;
-            let state = object.state();
-            let ordered = says_ordered(bytes);
-            return Ok(Self { form: Form::Sums(Arc::new(SumsForm::of(object))), state, ordered, seed_hash });
+            return border::CompactSums::of_image(bytes, seed).map(Self::of_sums);
         }
-        let (keys, entries) = parted(bytes)?;
-        // The C library decides whether these are the keys of a sketch.
-        let state = border::state_of_image(&keys, seed)?;
-        Ok(Self { form: Form::Own(entries), state, ordered: says_ordered(bytes), seed_hash })
+        let (keys, entries) = parted(bytes, |hash, rest| Ok(TupleEntry::of(hash, S::deserialize_value(rest)?)))?;
+        Ok(Self::of_keys(border::Compact::of_image(&keys, seed)?, entries))
     }
-}
-
-/// The image of the theta sketch of an image's keys, and its entries.
-fn parted<S: TupleSummaryValue>(bytes: &[u8]) -> Result<(Vec<u8>, Vec<TupleEntry<S>>), Error> {
-    let wrong = || Error::of(ErrorKind::InvalidData);
-    let known = bytes.len() >= 8
-        && (1..=3).contains(&bytes[0])
-        && matches!(bytes[1], 1 | 3)
-        && bytes[2] == TUPLE
-        && matches!(bytes[3], 1 | 5);
-    if !known {
-        return Err(wrong());
-    }
-    let longs = bytes[0];
-    let mut keys = vec![longs, 3, 3, 0, 0];
-    if says_empty(bytes) {
-        keys.extend_from_slice(&bytes[5..bytes.len().min(8 * usize::from(longs))]);
-        return Ok((keys, Vec::new()));
-    }
-    keys.extend_from_slice(bytes.get(5..8 * usize::from(longs)).ok_or_else(wrong)?);
-    let count = if longs == 1 { 1 } else { number_at(bytes, 8) as u32 as usize };
-    let mut rest = SketchSlice::new(&bytes[8 * usize::from(longs)..]);
-    let mut entries = Vec::new();
-    // No more entries than their hashes have bytes for.
-    entries.try_reserve(count.min(rest.remaining().len() / 8)).map_err(|_| Error::out_of_memory())?;
-    for _ in 0..count {
-        let hash = rest.read_u64_le().map_err(|_| wrong())?;
-        if hash == 0 {
-            return Err(wrong());
-        }
-        keys.extend_from_slice(&hash.to_le_bytes());
-        entries.push(TupleEntry::of(hash, S::deserialize_value(&mut rest)?));
-    }
-    Ok((keys, entries))
 }

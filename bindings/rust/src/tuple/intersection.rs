@@ -1,13 +1,12 @@
 //! The intersection.
 
-use super::own::{entries_at, is_policy, Map};
+use super::own::{entries_at, is_policy, size_of_map, Map};
 use super::policy::{DefaultUnionPolicy, SummaryCombinePolicy};
 use super::view::Viewed;
-use super::{CompactTupleSketch, TupleEntry, TupleSketchView};
+use super::{CompactTupleSketch, TupleSketchView};
 use crate::border;
 use crate::error::{must, Error, ErrorKind};
 use crate::hash::{seed_hash, DEFAULT_UPDATE_SEED};
-use crate::images::hashes_of;
 use std::fmt;
 use std::mem::size_of;
 
@@ -45,6 +44,7 @@ use std::mem::size_of;
 /// ```
 pub struct TupleIntersection<P: SummaryCombinePolicy> {
     store: Store<P::Summary>,
+    seed: u64,
     seed_hash: u16,
     begun: bool,
     policy: P,
@@ -85,7 +85,7 @@ impl<P: SummaryCombinePolicy> TupleIntersection<P> {
         } else {
             Store::Own { keys: border::Intersection::intersection(seed)?, map: Map::new() }
         };
-        Ok(Self { store, seed_hash, begun: false, policy })
+        Ok(Self { store, seed, seed_hash, begun: false, policy })
     }
 
     /// Intersects with a sketch.
@@ -104,17 +104,16 @@ impl<P: SummaryCombinePolicy> TupleIntersection<P> {
             return if self.is_empty()? { Ok(()) } else { view.check_seed(self.seed_hash) };
         }
         match &mut self.store {
-            Store::Sums(object) => match (view.0, view.compact_sums()) {
-                (Viewed::Sums(sketch), _) => object.add(sketch.object())?,
-                (_, Some(form)) => object.add_form(form)?,
-                _ => object.add_image(&view.sums_image()?)?,
+            Store::Sums(object) => match view.0 {
+                Viewed::Sums(sketch) => object.add(sketch.object())?,
+                _ => object.add_form(&*view.sums(self.seed)?)?,
             },
             Store::Own { keys, map } => {
                 // The summaries first: if the policy panics or memory is refused, nothing has changed.
                 let next = met(&self.policy, if self.begun { Some(&*map) } else { None }, view)?;
                 match view.0 {
                     Viewed::Own(sketch) => keys.add(sketch.keys())?,
-                    _ => keys.add_image(&view.key_image()?)?,
+                    _ => keys.add_form(&*view.keys(self.seed)?)?,
                 }
                 *map = next;
             }
@@ -129,8 +128,8 @@ impl<P: SummaryCombinePolicy> TupleIntersection<P> {
             return Ok(false);
         }
         Ok(match &self.store {
-            Store::Sums(object) => object.result()?.state().is_empty(),
-            Store::Own { keys, .. } => keys.result()?.state().is_empty(),
+            Store::Sums(object) => object.result(false)?.state().is_empty(),
+            Store::Own { keys, .. } => keys.result(false)?.state().is_empty(),
         })
     }
 
@@ -139,13 +138,12 @@ impl<P: SummaryCombinePolicy> TupleIntersection<P> {
         self.begun
     }
 
-    /// How many bytes of memory the hashes and summaries have at most, without what summaries point to. Those of sums
-    /// are the C library's, and not counted.
+    /// How many bytes of memory the hashes and summaries have, without what these point to.
     pub fn estimated_size(&self) -> usize {
         size_of::<P>()
             + match &self.store {
-                Store::Sums(_) => 0,
-                Store::Own { map, .. } => 8 * map.len() + map.capacity() * size_of::<(u64, TupleEntry<P::Summary>)>(),
+                Store::Sums(object) => object.estimated_size(),
+                Store::Own { keys, map } => keys.estimated_size() + size_of_map(map),
             }
     }
 
@@ -171,11 +169,11 @@ impl<P: SummaryCombinePolicy> TupleIntersection<P> {
             return Ok(None);
         }
         Ok(Some(match &self.store {
-            Store::Sums(object) => CompactTupleSketch::of_sums(object.result()?, self.seed_hash, ordered),
+            Store::Sums(object) => CompactTupleSketch::of_sums(object.result(ordered)?),
             Store::Own { keys, map } => {
-                let keys = keys.result()?;
-                let entries = entries_at(map, &hashes_of(&keys.image()?)?)?;
-                CompactTupleSketch::of_entries(keys.state(), self.seed_hash, ordered, entries)
+                let keys = keys.result(ordered)?;
+                let entries = entries_at(map, &keys.hashes()?)?;
+                CompactTupleSketch::of_keys(keys, entries)
             }
         }))
     }

@@ -6,7 +6,8 @@
 //! policy the library decides which hashes are retained, and theta, so estimates, differences and what unions and
 //! intersections retain are proved as those of theta sketches are. The summaries beside these hashes are in a map of
 //! this crate, which calls your policy: that each is what your policy made of the values of its key is tested, not
-//! proved, and so are the bytes of their images. In all of them the hashes of an image are read by proved functions.
+//! proved, and so is how they are put between the hashes of an image. Hashes and preambles of all images are written and
+//! read by proved functions.
 //!
 //! ```
 //! use kaftanclay::tuple::{DefaultUpdatePolicy, TupleSketchBuilder};

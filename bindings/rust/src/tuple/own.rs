@@ -3,10 +3,11 @@
 
 use super::policy::{SummaryPolicy, SummaryUpdatePolicy};
 use super::TupleEntry;
-use crate::border::{self, State};
+use crate::border::{self, vector, State};
 use crate::error::{must, Error};
 use crate::settings::Checked;
 use std::collections::hash_map::{Entry, HashMap};
+use std::mem::size_of;
 
 /// The entries by their hashes. The map hashes them again, under a key of its own, since a caller may choose them.
 pub(super) type Map<S> = HashMap<u64, TupleEntry<S>>;
@@ -23,9 +24,15 @@ pub(super) struct OwnSketch<S> {
     empty: bool,
 }
 
+/// How many bytes a map has, without what summaries point to.
+pub(super) fn size_of_map<S>(map: &Map<S>) -> usize {
+    map.capacity() * size_of::<(u64, TupleEntry<S>)>()
+}
+
 impl<S> OwnSketch<S> {
     pub(super) fn new(settings: Checked) -> Result<Self, Error> {
-        let keys = border::Theta::new(settings.lg_k, settings.seed, settings.factor, settings.start)?;
+        let keys = border::Theta::new(settings.lg_k, settings.seed, settings.factor, settings.start)
+            .map_err(|error| settings.refusal(error))?;
         let (start, theta) = (settings.start, settings.start);
         Ok(Self { keys, map: Map::new(), settings, start, theta, empty: true })
     }
@@ -39,8 +46,11 @@ impl<S> OwnSketch<S> {
         let start = if state.is_empty() { settings.start } else { state.theta };
         let mut sketch = Self::new(Checked { start, ..settings })?;
         sketch.settings = settings;
+        let room = state.retained as usize;
+        sketch.map.try_reserve(room).map_err(|_| Error::out_of_memory())?;
         sketch.map.extend(entries.map(|it| (it.hash(), it)));
-        let hashes: Vec<u64> = sketch.map.keys().copied().collect();
+        let mut hashes = vector(room)?;
+        hashes.extend(sketch.map.keys().copied());
         sketch.keys.update_hashes(&hashes)?;
         if !state.is_empty() {
             sketch.keys.update_hash(0)?;
@@ -58,7 +68,7 @@ impl<S> OwnSketch<S> {
     }
 
     pub(super) fn seed_hash(&self) -> u16 {
-        self.settings.seed_hash
+        self.settings.seed_hash()
     }
 
     pub(super) fn state(&self) -> State {
@@ -69,20 +79,22 @@ impl<S> OwnSketch<S> {
         }
     }
 
-    /// Follows the theta sketch after a call that may have lowered its theta.
-    fn follow(&mut self) {
-        let state = self.keys.state_of_own();
-        if state.theta < self.theta {
-            self.theta = state.theta;
-            self.map.retain(|hash, _| *hash < state.theta);
+    pub(super) fn estimated_size(&self) -> usize {
+        self.keys.estimated_size() + size_of_map(&self.map)
+    }
+
+    /// Drops what the theta sketch has dropped, if a call has lowered its theta.
+    fn follow(&mut self, theta: u64) {
+        if theta < self.theta {
+            self.theta = theta;
+            self.map.retain(|hash, _| *hash < theta);
         }
     }
 
-    pub(super) fn update<P, U>(&mut self, policy: &P, key: &[u8], value: U) -> Result<(), Error>
+    pub(super) fn update<P, U>(&mut self, policy: &P, hash: u64, value: U) -> Result<(), Error>
     where
         P: SummaryUpdatePolicy<U, Summary = S>,
     {
-        let hash = border::hash_of_bytes(self.settings.seed, key);
         if hash == 0 || hash >= self.theta {
             // Once the sketch is nonempty, such a hash changes nothing.
             if self.empty {
@@ -92,24 +104,16 @@ impl<S> OwnSketch<S> {
             return Ok(());
         }
         self.map.try_reserve(1).map_err(|_| Error::out_of_memory())?;
-        let nominal = 1 << self.settings.lg_k;
-        let many = self.map.len() >= nominal;
         match self.map.entry(hash) {
-            Entry::Occupied(mut kept) => {
-                policy.update(&mut kept.get_mut().summary, value);
-                return Ok(());
-            }
+            Entry::Occupied(mut kept) => policy.update(&mut kept.get_mut().summary, value),
             Entry::Vacant(place) => {
                 let mut summary = policy.create();
                 policy.update(&mut summary, value);
-                self.keys.update_hash(hash)?;
+                let state = self.keys.insert_hash(hash)?;
                 place.insert(TupleEntry::of(hash, summary));
+                self.empty = false;
+                self.follow(state.theta);
             }
-        }
-        self.empty = false;
-        // Up to the nominal entries theta stays.
-        if many {
-            self.follow();
         }
         Ok(())
     }
@@ -117,7 +121,7 @@ impl<S> OwnSketch<S> {
     pub(super) fn trim(&mut self) -> Result<(), Error> {
         self.keys.trim()?;
         if !self.empty {
-            self.follow();
+            self.follow(self.keys.state().theta);
         }
         Ok(())
     }
@@ -143,8 +147,7 @@ impl<S> OwnSketch<S> {
 
 /// The entries of a map that the hashes name, in their order. Every hash is in the map.
 pub(super) fn entries_at<S: Clone>(map: &Map<S>, hashes: &[u64]) -> Result<Vec<TupleEntry<S>>, Error> {
-    let mut entries = Vec::new();
-    entries.try_reserve_exact(hashes.len()).map_err(|_| Error::out_of_memory())?;
+    let mut entries = vector(hashes.len())?;
     entries.extend(hashes.iter().map(|hash| map[hash].clone()));
     Ok(entries)
 }

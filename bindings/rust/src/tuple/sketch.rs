@@ -9,9 +9,7 @@ use crate::border::{self, State};
 use crate::common::{NumStdDev, ResizeFactor};
 use crate::error::{must, Error};
 use crate::hash::Gathered;
-use crate::images::hashes_of;
 use crate::settings::{setters, Checked, Settings, Start};
-use crate::table::estimated_slots;
 use std::fmt;
 use std::hash::Hash;
 use std::mem::size_of;
@@ -106,14 +104,52 @@ impl<P: SummaryPolicy> TupleSketch<P> {
         P: SummaryUpdatePolicy<U>,
     {
         let key = Gathered::of(key);
-        if let Store::Sums(sketch) = &mut self.store {
-            if let Some(number) = P::addend(&value) {
-                return sketch.changed().add_bytes(key.bytes(), number);
-            }
+        if let (Store::Sums(sketch), Some(number)) = (&mut self.store, P::addend(&value)) {
+            return sketch.changed().add_bytes(key.bytes(), number);
+        }
+        self.update_own(border::hash_of_bytes(self.settings.seed, key.bytes()), value)
+    }
+
+    /// Updates the summary of a hash of 63 bits of your own, as [`update`](Self::update) does that of a key. A hash that
+    /// is 0 or at least theta isn't retained, but the sketch is nonempty afterwards. `datasketches` has no such call.
+    ///
+    /// # Panics
+    ///
+    /// As [`update`](Self::update); [`try_update_hash`](Self::try_update_hash) returns that as an error.
+    #[inline]
+    pub fn update_hash<U>(&mut self, hash: u64, value: U)
+    where
+        P: SummaryUpdatePolicy<U>,
+    {
+        must(self.try_update_hash(hash, value));
+    }
+
+    /// Updates the sketch as [`update_hash`](Self::update_hash) does.
+    ///
+    /// # Errors
+    ///
+    /// As those of [`try_update`](Self::try_update).
+    #[inline]
+    pub fn try_update_hash<U>(&mut self, hash: u64, value: U) -> Result<(), Error>
+    where
+        P: SummaryUpdatePolicy<U>,
+    {
+        if let (Store::Sums(sketch), Some(number)) = (&mut self.store, P::addend(&value)) {
+            return sketch.changed().add_hash(hash, number);
+        }
+        self.update_own(hash, value)
+    }
+
+    /// Updates a summary in the map.
+    fn update_own<U>(&mut self, hash: u64, value: U) -> Result<(), Error>
+    where
+        P: SummaryUpdatePolicy<U>,
+    {
+        if matches!(self.store, Store::Sums(_)) {
             self.leave_sums()?;
         }
         match &mut self.store {
-            Store::Own(sketch) => sketch.update(&self.policy, key.bytes(), value),
+            Store::Own(sketch) => sketch.update(&self.policy, hash, value),
             Store::Sums(_) => unreachable!("the sketch has left the sums"),
         }
     }
@@ -148,7 +184,7 @@ impl<P: SummaryPolicy> TupleSketch<P> {
 
     /// The hash of the seed, of 16 bits.
     pub fn seed_hash(&self) -> u16 {
-        self.settings.seed_hash
+        self.settings.seed_hash()
     }
 
     /// Whether there was no update since the sketch was new or reset.
@@ -228,11 +264,10 @@ impl<P: SummaryPolicy> TupleSketch<P> {
 
     /// About how many bytes of memory the sketch has, without what summaries point to.
     pub fn estimated_size(&self) -> usize {
-        let slots = estimated_slots(&self.settings, self.state());
         size_of::<P>()
             + match &self.store {
-                Store::Sums(_) => 24 * slots,
-                Store::Own(sketch) => 8 * slots + sketch.map().capacity() * size_of::<(u64, TupleEntry<P::Summary>)>(),
+                Store::Sums(sketch) => sketch.object().estimated_size(),
+                Store::Own(sketch) => sketch.estimated_size(),
             }
     }
 }
@@ -241,8 +276,8 @@ impl<P: SummaryPolicy> TupleSketch<P>
 where
     P::Summary: Clone,
 {
-    /// The compact form, of the same entries and theta. Its hashes ascend; `ordered` decides whether it says so. If
-    /// there is one entry or none and theta is 2^63 - 1, it is ordered anyway.
+    /// The compact form, of the same entries and theta. If it is `ordered`, its hashes ascend; else they are in any
+    /// order, which is faster. An empty one, or one of one entry whose theta is 2^63 - 1, is ordered anyway.
     ///
     /// # Panics
     ///
@@ -253,12 +288,12 @@ where
 
     /// The compact form, or `OutOfMemory`.
     pub fn try_compact(&self, ordered: bool) -> Result<CompactTupleSketch<P::Summary>, Error> {
-        let seed_hash = self.settings.seed_hash;
         match &self.store {
-            Store::Sums(sketch) => Ok(CompactTupleSketch::of_sums(sketch.object().compact()?, seed_hash, ordered)),
+            Store::Sums(sketch) => sketch.object().compact(ordered).map(CompactTupleSketch::of_sums),
             Store::Own(sketch) => {
-                let entries = entries_at(sketch.map(), &hashes_of(&sketch.keys().image()?)?)?;
-                Ok(CompactTupleSketch::of_entries(sketch.state(), seed_hash, ordered, entries))
+                let keys = sketch.keys().compact(ordered)?;
+                let entries = entries_at(sketch.map(), &keys.hashes()?)?;
+                Ok(CompactTupleSketch::of_keys(keys, entries))
             }
         }
     }
@@ -287,8 +322,7 @@ impl<P: SummaryPolicy> TupleSketchBuilder<P> {
     pub fn build(self) -> Result<TupleSketch<P>, Error> {
         let settings = self.settings.checked()?;
         let store = if is_policy::<P, DefaultUpdatePolicy<u64>>() {
-            let object = border::Sums::new(settings.lg_k, settings.seed, settings.factor, settings.start)?;
-            Store::Sums(SumsSketch::of(object, settings.seed_hash))
+            Store::Sums(SumsSketch::new(settings)?)
         } else {
             Store::Own(OwnSketch::new(settings)?)
         };

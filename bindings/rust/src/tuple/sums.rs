@@ -1,22 +1,28 @@
 //! Sketches of sums that are the C library's, and the entries that are lent of them.
 
 use super::TupleEntry;
-use crate::border;
+use crate::border::{self, vector, Object, Summed};
 use crate::error::Error;
-use crate::images::sums_of;
+use crate::settings::Checked;
 use std::sync::OnceLock;
 
 /// A sketch of sums that takes updates.
 pub(super) struct SumsSketch {
     object: border::Sums,
-    pub(super) seed_hash: u16,
+    settings: Checked,
     /// The entries, once somebody has asked for them since the last change.
     entries: OnceLock<Vec<TupleEntry<u64>>>,
 }
 
 impl SumsSketch {
-    pub(super) fn of(object: border::Sums, seed_hash: u16) -> Self {
-        Self { object, seed_hash, entries: OnceLock::new() }
+    pub(super) fn new(settings: Checked) -> Result<Self, Error> {
+        let object = border::Sums::new(settings.lg_k, settings.seed, settings.factor, settings.start)
+            .map_err(|error| settings.refusal(error))?;
+        Ok(Self { object, settings, entries: OnceLock::new() })
+    }
+
+    pub(super) fn seed_hash(&self) -> u16 {
+        self.settings.seed_hash()
     }
 
     pub(super) fn object(&self) -> &border::Sums {
@@ -33,7 +39,7 @@ impl SumsSketch {
     }
 
     pub(super) fn entries(&self) -> Result<&[TupleEntry<u64>], Error> {
-        lent(&self.entries, || self.object.image())
+        lent(&self.entries, &self.object)
     }
 }
 
@@ -49,7 +55,7 @@ impl SumsForm {
     }
 
     pub(super) fn entries(&self) -> Result<&[TupleEntry<u64>], Error> {
-        lent(&self.entries, || self.object.image())
+        lent(&self.entries, &self.object)
     }
 
     pub(super) fn copied(&self) -> usize {
@@ -57,14 +63,16 @@ impl SumsForm {
     }
 }
 
-/// The entries of an image, which are read at the first call.
-fn lent(
-    kept: &OnceLock<Vec<TupleEntry<u64>>>,
-    image: impl FnOnce() -> Result<Vec<u8>, Error>,
-) -> Result<&[TupleEntry<u64>], Error> {
+/// The entries of an object, which are copied at the first call.
+fn lent<'a, K: Summed>(
+    kept: &'a OnceLock<Vec<TupleEntry<u64>>>,
+    object: &Object<K>,
+) -> Result<&'a [TupleEntry<u64>], Error> {
     if let Some(entries) = kept.get() {
         return Ok(entries);
     }
-    let entries = sums_of(&image()?, TupleEntry::of)?;
+    let (hashes, sums) = object.entries()?;
+    let mut entries = vector(hashes.len())?;
+    entries.extend(hashes.into_iter().zip(sums).map(|(hash, sum)| TupleEntry::of(hash, sum)));
     Ok(kept.get_or_init(|| entries))
 }

@@ -1,15 +1,13 @@
 //! The union, and its builder.
 
-use super::own::{entries_at, is_policy, Map};
+use super::own::{entries_at, is_policy, size_of_map, Map};
 use super::policy::{DefaultUnionPolicy, SummaryCombinePolicy};
 use super::view::Viewed;
 use super::{CompactTupleSketch, TupleSketchView};
-use crate::border::{self, State};
+use crate::border;
 use crate::common::ResizeFactor;
 use crate::error::{must, Error, ErrorKind};
-use crate::images::{hashes_of, preamble, theta_image, TUPLE};
 use crate::settings::{setters, Checked, Settings, Start};
-use crate::state::MAX_THETA;
 use std::collections::hash_map::Entry;
 use std::fmt;
 use std::mem::size_of;
@@ -32,8 +30,6 @@ use std::mem::size_of;
 pub struct TupleUnion<P: SummaryCombinePolicy> {
     store: Store<P::Summary>,
     settings: Checked,
-    /// Whether the starting theta has been merged: no call makes a union that begins at one.
-    begun: bool,
     policy: P,
 }
 
@@ -72,35 +68,14 @@ impl<P: SummaryCombinePolicy> TupleUnion<P> {
         P::Summary: Clone + 'a,
     {
         let view = sketch.into();
-        view.check_seed(self.settings.seed_hash)?;
+        view.check_seed(self.settings.seed_hash())?;
         match &mut self.store {
-            Store::Sums(object) => match (view.0, view.compact_sums()) {
-                (Viewed::Sums(sketch), _) => object.add(sketch.object())?,
-                (_, Some(form)) => object.add_form(form)?,
-                _ => object.add_image(&view.sums_image()?)?,
+            Store::Sums(object) => match view.0 {
+                Viewed::Sums(sketch) => object.add(sketch.object())?,
+                _ => object.add_form(&*view.sums(self.settings.seed)?)?,
             },
-            Store::Own(union) => union.update(&self.policy, self.settings.lg_k, view)?,
+            Store::Own(union) => union.update(&self.policy, &self.settings, view)?,
         }
-        if !self.begun && !view.is_empty() {
-            self.begin()?;
-        }
-        Ok(())
-    }
-
-    /// Merges a sketch that retains nothing, at the starting theta.
-    fn begin(&mut self) -> Result<(), Error> {
-        let (start, seed_hash) = (self.settings.start, self.settings.seed_hash);
-        if start < MAX_THETA {
-            let state = State { retained: 0, theta: start, empty: 0 };
-            match &mut self.store {
-                Store::Sums(object) => object.add_image(&preamble(TUPLE, state, true, seed_hash, 0)?)?,
-                Store::Own(union) => {
-                    union.keys.add_image(&theta_image(state, true, seed_hash, std::iter::empty())?)?;
-                    union.bound = union.bound.min(start);
-                }
-            }
-        }
-        self.begun = true;
         Ok(())
     }
 
@@ -125,14 +100,13 @@ impl<P: SummaryCombinePolicy> TupleUnion<P> {
     where
         P::Summary: Clone,
     {
-        let seed_hash = self.settings.seed_hash;
         match &self.store {
-            Store::Sums(object) => Ok(CompactTupleSketch::of_sums(object.result()?, seed_hash, ordered)),
+            Store::Sums(object) => object.result(ordered).map(CompactTupleSketch::of_sums),
             Store::Own(union) => {
                 union.check_whole()?;
-                let keys = union.keys.result()?;
-                let entries = entries_at(&union.map, &hashes_of(&keys.image()?)?)?;
-                Ok(CompactTupleSketch::of_entries(keys.state(), seed_hash, ordered, entries))
+                let keys = union.keys.result(ordered)?;
+                let entries = entries_at(&union.map, &keys.hashes()?)?;
+                Ok(CompactTupleSketch::of_keys(keys, entries))
             }
         }
     }
@@ -144,28 +118,24 @@ impl<P: SummaryCombinePolicy> TupleUnion<P> {
             Store::Own(union) => {
                 union.keys.reset_union();
                 union.map.clear();
-                union.bound = MAX_THETA;
+                union.bound = self.settings.start;
                 union.whole = true;
             }
         }
-        self.begun = false;
     }
 
-    /// How many bytes of memory the slots have at most, and the summaries, without what these point to.
+    /// How many bytes of memory the slots and the summaries have, without what these point to.
     pub fn estimated_size(&self) -> usize {
-        let slots = 1 << (self.settings.lg_k + 1);
         size_of::<P>()
             + match &self.store {
-                Store::Sums(_) => 24 * slots,
-                Store::Own(union) => {
-                    8 * slots + union.map.capacity() * size_of::<(u64, super::TupleEntry<P::Summary>)>()
-                }
+                Store::Sums(object) => object.estimated_size(),
+                Store::Own(union) => union.keys.estimated_size() + size_of_map(&union.map),
             }
     }
 }
 
 impl<S: Clone> OwnUnion<S> {
-    fn update<P>(&mut self, policy: &P, lg_k: u8, view: TupleSketchView<'_, S>) -> Result<(), Error>
+    fn update<P>(&mut self, policy: &P, settings: &Checked, view: TupleSketchView<'_, S>) -> Result<(), Error>
     where
         P: SummaryCombinePolicy<Summary = S>,
     {
@@ -175,7 +145,7 @@ impl<S: Clone> OwnUnion<S> {
         self.map.try_reserve(state.retained as usize).map_err(|_| Error::out_of_memory())?;
         match view.0 {
             Viewed::Own(sketch) => self.keys.add(sketch.keys())?,
-            _ => self.keys.add_image(&view.key_image()?)?,
+            _ => self.keys.add_form(&*view.keys(settings.seed)?)?,
         }
         self.whole = false;
         self.bound = self.bound.min(state.theta);
@@ -189,8 +159,8 @@ impl<S: Clone> OwnUnion<S> {
         }
         self.whole = true;
         // The map may keep k hashes that the union has dropped, and no more.
-        if self.map.len() > 2 << lg_k {
-            self.bound = self.bound.min(self.keys.result()?.state().theta);
+        if self.map.len() > 2 << settings.lg_k {
+            self.bound = self.bound.min(self.keys.result(false)?.state().theta);
             let bound = self.bound;
             self.map.retain(|hash, _| *hash < bound);
         }
@@ -230,12 +200,14 @@ impl<P: SummaryCombinePolicy> TupleUnionBuilder<P> {
     /// `InvalidArgument` if a setting is out of range or the hash of the seed is 0; `OutOfMemory`.
     pub fn build(self) -> Result<TupleUnion<P>, Error> {
         let settings = self.settings.checked()?;
+        let Checked { lg_k, factor, start, seed } = settings;
         let store = if is_policy::<P, DefaultUnionPolicy<u64>>() {
-            Store::Sums(border::SumsUnion::union(settings.lg_k, settings.seed)?)
+            let object = border::SumsUnion::union(lg_k, seed, factor, start);
+            Store::Sums(object.map_err(|error| settings.refusal(error))?)
         } else {
-            let keys = border::Union::union(settings.lg_k, settings.seed)?;
-            Store::Own(OwnUnion { keys, map: Map::new(), bound: MAX_THETA, whole: true })
+            let keys = border::Union::union(lg_k, seed, factor, start).map_err(|error| settings.refusal(error))?;
+            Store::Own(OwnUnion { keys, map: Map::new(), bound: start, whole: true })
         };
-        Ok(TupleUnion { store, settings, begun: false, policy: self.policy })
+        Ok(TupleUnion { store, settings, policy: self.policy })
     }
 }

@@ -1,12 +1,14 @@
 //! Views of sketches of both kinds.
 
-use super::compact::Form;
+use super::compact::{Form, OwnForm};
 use super::own::OwnSketch;
 use super::sums::SumsSketch;
 use super::{CompactTupleSketch, SummaryPolicy, TupleEntry, TupleSketch};
 use crate::border::{self, number_of, same_slice, State};
-use crate::error::{must, Error};
-use crate::images::{preamble, theta_image, TUPLE};
+use crate::codec::SketchBytes;
+use crate::error::{must, Error, ErrorKind};
+use crate::images::{parted, with_summaries};
+use crate::lent::Lent;
 use std::collections::hash_map::Values;
 use std::{fmt, slice};
 
@@ -93,7 +95,7 @@ impl<'a, S> TupleSketchView<'a, S> {
     /// The hash of the sketch's seed, of 16 bits.
     pub fn seed_hash(&self) -> u16 {
         match self.0 {
-            Viewed::Sums(sketch) => sketch.seed_hash,
+            Viewed::Sums(sketch) => sketch.seed_hash(),
             Viewed::Own(sketch) => sketch.seed_hash(),
             Viewed::Form(form) => form.seed_hash(),
         }
@@ -154,32 +156,49 @@ impl<'a, S> TupleSketchView<'a, S> {
         }
     }
 
-    /// The compact sketch of sums that the C library has of this one, if it is the library's.
-    pub(super) fn compact_sums(self) -> Option<&'a border::CompactSums> {
-        match self.0 {
+    /// Whether the sketch is the C library's.
+    pub(super) fn is_of_sums(&self) -> bool {
+        matches!(self.0, Viewed::Sums(_) | Viewed::Form(CompactTupleSketch { form: Form::Sums(_), .. }))
+    }
+
+    /// The compact theta sketch of the keys, ordered only if the sketch is, or must be. A seed is needed whose hash is
+    /// that of the sketch's.
+    pub(super) fn keys(self, seed: u64) -> Result<Lent<'a, border::Compact>, Error> {
+        let image = match self.0 {
+            Viewed::Own(sketch) => return sketch.keys().compact(false).map(Lent::Made),
             Viewed::Form(form) => match &form.form {
-                Form::Sums(kept) => Some(&kept.object),
-                Form::Own(_) => None,
+                Form::Own(form) => return Ok(Lent::Given(&form.keys)),
+                Form::Sums(kept) => kept.object.image()?,
             },
-            _ => None,
-        }
+            Viewed::Sums(sketch) => sketch.object().compact(false)?.image()?,
+        };
+        // No call makes it of a sketch of sums.
+        let pass = |_| Error::of(ErrorKind::InvalidData);
+        let (keys, _) = parted(&image, |_, sum| sum.read_u64_le().map(|_| ()).map_err(pass))?;
+        border::Compact::of_image(&keys, seed).map(Lent::Made)
     }
 
-    /// The image of the theta sketch of the keys.
-    pub(super) fn key_image(self) -> Result<Vec<u8>, Error> {
-        theta_image(self.state(), self.is_ordered(), self.seed_hash(), self.entries()?.map(TupleEntry::hash))
-    }
-
-    /// The image of a sketch whose summaries are `u64`.
-    pub(super) fn sums_image(self) -> Result<Vec<u8>, Error> {
-        let state = self.state();
-        let mut image = preamble(TUPLE, state, self.is_ordered(), self.seed_hash(), 16 * state.retained as usize)?;
-        for entry in self.entries()? {
-            let sum = number_of(entry.summary()).expect("the C library has sums of u64 alone");
-            image.extend_from_slice(&entry.hash().to_le_bytes());
-            image.extend_from_slice(&sum.to_le_bytes());
-        }
-        Ok(image)
+    /// The compact sketch of sums, of a sketch whose summaries are `u64`, ordered and of a seed as `keys` is.
+    pub(super) fn sums(self, seed: u64) -> Result<Lent<'a, border::CompactSums>, Error> {
+        let write = |sum: &S, out: &mut SketchBytes| {
+            out.write_u64_le(number_of(sum).expect("the C library has sums of u64 alone"));
+        };
+        let room = 8 * self.num_retained();
+        let image = match self.0 {
+            Viewed::Sums(sketch) => return sketch.object().compact(false).map(Lent::Made),
+            Viewed::Own(sketch) => {
+                let keys = sketch.keys().compact(false)?;
+                let (map, hashes) = (sketch.map(), keys.hashes()?);
+                with_summaries(&keys.image()?, hashes.iter().map(|hash| &map[hash].summary), room, write)?
+            }
+            Viewed::Form(form) => match &form.form {
+                Form::Sums(kept) => return Ok(Lent::Given(&kept.object)),
+                Form::Own(OwnForm { keys, entries }) => {
+                    with_summaries(&keys.image()?, entries.iter().map(|it| &it.summary), room, write)?
+                }
+            },
+        };
+        border::CompactSums::of_image(&image, seed).map(Lent::Made)
     }
 }
 

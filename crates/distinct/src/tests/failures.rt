@@ -15,6 +15,7 @@ enum Kind {
     NoName,
     Memory,
     NotWritten,
+    LongName,
 }
 
 fn failure_of(alloc: Global, kind: Kind) -> Result<Failure, AllocError> {
@@ -27,6 +28,7 @@ fn failure_of(alloc: Global, kind: Kind) -> Result<Failure, AllocError> {
         Kind::NoName => Failure::NoName(name, 2),
         Kind::Memory => Failure::Memory,
         Kind::NotWritten => Failure::NotWritten(name, Error::from(ErrorKind::StorageFull)),
+        Kind::LongName => Failure::LongName(name, 247),
     })
 }
 
@@ -59,6 +61,11 @@ fn prints_rare_failures(rt: HostRuntime) -> Result<(), Fail> {
         (Kind::NoName, 1, "it: name 2 is empty or not UTF-8 text"),
         (Kind::Memory, 1, "out of memory"),
         (Kind::NotWritten, 1, "it: no storage space"),
+        (
+            Kind::LongName,
+            1,
+            "it: the file's name has 247 bytes, and at most 246 are allowed: write lines by --hex, without --output-dir",
+        ),
     ] {
         let printed = message_of(rt.alloc(), kind)?;
         assert_eq!(rt;
@@ -66,6 +73,24 @@ fn prints_rare_failures(rt: HostRuntime) -> Result<(), Fail> {
             (status, message),
             "{kind:?}"
         );
+    }
+    Ok(())
+}
+
+/// Whether the program ends without a message, if writing to this name fails for such a reason.
+fn is_silent(alloc: Global, name: &str, kind: ErrorKind) -> Result<bool, AllocError> {
+    let name = String::from_str(alloc, name)?;
+    Ok(Failure::NotWritten(name, Error::from(kind)).is_closed_output())
+}
+
+#[test]
+fn ends_without_a_message_if_its_output_is_closed(rt: HostRuntime) -> Result<(), Fail> {
+    for (name, kind, silent) in [
+        ("standard output", ErrorKind::BrokenPipe, true),
+        ("standard output", ErrorKind::StorageFull, false),
+        ("it", ErrorKind::BrokenPipe, false),
+    ] {
+        assert_eq!(rt; is_silent(rt.alloc(), name, kind)?, silent, "{name}");
     }
     Ok(())
 }

@@ -4,5 +4,5 @@ use Rattle.example_returning.specs.Visitors.{day_hashes}
 use Rattle.example_returning.proofs.sketch_of.Given as goal
 
 -- the sketch was given the names so far
-abbrev pub invariant-names : goal.invariant-names
-invariant-names l = IsSketchOf 14 MAX_THETA DEFAULT_UPDATE_SEED l.sketch (day_hashes (take l.name-index l.names))
+abbrev pub invariant-loop-name : goal.invariant-loop-name
+invariant-loop-name l = IsSketchOf 14 MAX_THETA DEFAULT_UPDATE_SEED l.sketch (day_hashes (take l.name-index l.names))

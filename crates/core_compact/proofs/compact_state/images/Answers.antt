@@ -19,15 +19,15 @@ comes_to step first xs before rest after ys state x e f made = record { before =
 
 pub f-requires : goal.f-requires
 f-requires g c =
-    c.requires.callable c.call_at_each.f c.in-Some.entry
-    (comes_to _ _ _ c.call_at_each.yielded _ c.next.new.self.rest.items c.call_at_each.images.items c.call_at_each.f c.in-Some.entry c.call_at_each.invariant.remaining c.in-Some.ensures.steps.0 c.call_at_each.invariant.images)
+    c.requires.callable c.loop-entry.f c.in-Some.entry
+    (comes_to _ _ _ c.loop-entry.yielded _ c.next.new.self.rest.items c.loop-entry.images.items c.loop-entry.f c.in-Some.entry c.loop-entry.invariant.remaining c.in-Some.ensures.steps.0 c.loop-entry.invariant.images)
 
-pub call_at_each-preserved : goal.call_at_each-preserved
-call_at_each-preserved g c = record {
-  remaining = more_to_come _ c.call_at_each.yielded _ c.next.new.self.rest.items c.in-Some.entry c.call_at_each.invariant.remaining c.in-Some.ensures.steps.0;
-  images = rw c.in_ok-push.ensures.items (makes_more _ c.args.f c.call_at_each.yielded c.call_at_each.images.items c.call_at_each.f c.in-Some.entry c.f.result c.f.new.self c.call_at_each.invariant.images (search (of_calls, rules)));
+pub loop-entry-preserved : goal.loop-entry-preserved
+loop-entry-preserved g c = record {
+  remaining = more_to_come _ c.loop-entry.yielded _ c.next.new.self.rest.items c.in-Some.entry c.loop-entry.invariant.remaining c.in-Some.ensures.steps.0;
+  images = rw c.in_ok-push.ensures.items (makes_more _ c.args.f c.loop-entry.yielded c.loop-entry.images.items c.loop-entry.f c.in-Some.entry c.f.result c.f.new.self c.loop-entry.invariant.images (search (of_calls, rules)));
   hashes =
-      let present : _ = comes_to _ _ _ c.call_at_each.yielded _ c.next.new.self.rest.items c.call_at_each.images.items c.call_at_each.f c.in-Some.entry c.call_at_each.invariant.remaining c.in-Some.ensures.steps.0 c.call_at_each.invariant.images in
-      let same : g.F.SketchEntry.key c.f.result ≡ g.E.SketchEntry.key c.in-Some.entry = c.requires.keeps_hash c.call_at_each.f c.in-Some.entry c.f.result c.f.new.self present (search (of_calls, rules)) in
-      rw (c.in_ok-push.ensures.items, map-append g.F.SketchEntry.key, map-append g.E.SketchEntry.key, c.call_at_each.invariant.hashes, same) refl;
+      let present : _ = comes_to _ _ _ c.loop-entry.yielded _ c.next.new.self.rest.items c.loop-entry.images.items c.loop-entry.f c.in-Some.entry c.loop-entry.invariant.remaining c.in-Some.ensures.steps.0 c.loop-entry.invariant.images in
+      let same : g.F.SketchEntry.key c.f.result ≡ g.E.SketchEntry.key c.in-Some.entry = c.requires.keeps_hash c.loop-entry.f c.in-Some.entry c.f.result c.f.new.self present (search (of_calls, rules)) in
+      rw (c.in_ok-push.ensures.items, map-append g.F.SketchEntry.key, map-append g.E.SketchEntry.key, c.loop-entry.invariant.hashes, same) refl;
 }

@@ -13,8 +13,8 @@ returns-clause-ok g c =
     let fixed = g.E.FixedEntry in
     let bytes = c.args.bytes.now in
     let most = length bytes / g.row.N in
-    let none : length c.read_blocks.rest.now ≡ 0 = search rules in
-    let read = all_mapped fixed.entry_of c.read_blocks.entries.items (map fixed.entry_of c.in_ok-rest.rest.now) c.read_blocks.rest.now none c.read_blocks.invariant.0 in
+    let none : length c.loop-rest.rest.now ≡ 0 = search rules in
+    let read = all_mapped fixed.entry_of c.loop-rest.entries.items (map fixed.entry_of c.in_ok-rest.rest.now) c.loop-rest.rest.now none c.loop-rest.invariant.0 in
     let items = read ∙ ap (map fixed.entry_of) c.in_ok-rest.ensures.ok in
     let enough = c.in_ok-rest.ensures.enough in
     rw items (chunks_held g.row.N fixed.spells fixed.entry_of g.met.E.FixedEntry.spelled c.args.count most bytes enough ((le-div_iff_mul-le c.requires.some).0 enough))
@@ -22,18 +22,18 @@ returns-clause-ok g c =
 pub returns-clause-ascends : goal.returns-clause-ascends
 returns-clause-ascends g c =
     let fixed = g.E.FixedEntry in
-    let rest = c.read_blocks.rest.now in
+    let rest = c.loop-rest.rest.now in
     let texts = c.in_ok-rest.rest.now in
     let key = λ (text : List ℕ). g.E.SketchEntry.key (fixed.entry_of text) in
     let none : length rest ≡ 0 = search rules in
-    let read = all_mapped fixed.entry_of c.read_blocks.entries.items (map fixed.entry_of texts) rest none c.read_blocks.invariant.0 in
+    let read = all_mapped fixed.entry_of c.loop-rest.entries.items (map fixed.entry_of texts) rest none c.loop-rest.invariant.0 in
     let hashes = ap (map g.E.SketchEntry.key) read ∙ map-map g.E.SketchEntry.key fixed.entry_of texts in
-    all_compared key c.read_blocks.ascends (ascends_from 0 (map key texts)) c.read_blocks.last rest none c.read_blocks.invariant.1 ∙ ap (ascends_from 0) (sym hashes)
+    all_compared key c.loop-rest.ascends (ascends_from 0 (map key texts)) c.loop-rest.last rest none c.loop-rest.invariant.1 ∙ ap (ascends_from 0) (sym hashes)
 
-pub read_blocks-preserved : goal.read_blocks-preserved
-read_blocks-preserved g c =
+pub loop-rest-preserved : goal.loop-rest-preserved
+loop-rest-preserved g c =
     let fixed = g.E.FixedEntry in
-    let rest = c.read_blocks.rest.now in
+    let rest = c.loop-rest.rest.now in
     let key = λ (text : List ℕ). g.E.SketchEntry.key (fixed.entry_of text) in
     let block = c.split_at.ensures.front in
     let others = c.split_at.ensures.back in
@@ -41,6 +41,6 @@ read_blocks-preserved g c =
     let all = items_from_extend c.extend.result c.extend.ensures.ran (YieldsList-from_map _ fixed.entry_of source c.map-found.ensures.closure (λ x r q k. search rules)) in
     let appended = rw c.in_ok-extend.was at all in
     let compared = rw block at c.compare_block-above.ensures in (
-      ap (λ l. c.extend.new.self.items ++ map fixed.entry_of l) others ∙ block_mapped fixed.entry_of _ c.read_blocks.entries.items c.extend.new.self.items rest appended.0 ∙ c.read_blocks.invariant.0,
-      rw others (block_compared key _ c.read_blocks.ascends c.compare_block-above.result.0 c.read_blocks.last c.compare_block-above.result.1 rest compared ∙ c.read_blocks.invariant.1),
+      ap (λ l. c.extend.new.self.items ++ map fixed.entry_of l) others ∙ block_mapped fixed.entry_of _ c.loop-rest.entries.items c.extend.new.self.items rest appended.0 ∙ c.loop-rest.invariant.0,
+      rw others (block_compared key _ c.loop-rest.ascends c.compare_block-above.result.0 c.loop-rest.last c.compare_block-above.result.1 rest compared ∙ c.loop-rest.invariant.1),
     )

@@ -5,12 +5,12 @@ use Rattle.core_images.proofs.blocks.spell_block.Goals as goal
 pub returns-clause-texts : goal.returns-clause-texts
 returns-clause-texts g c =
     let block = c.args.block.now in
-    let all : c.spell_each.at ≡ length block = omega (arith, c.spell_each.auto.at-end, c.spell_each-test.false) in
-    let all_block : take c.spell_each.at block ≡ block = take_all c.spell_each.at block (omega (arith, c.spell_each-test.false)) in
-    ap (λ n. take n c.spell_each.texts) (sym all) ∙ c.spell_each.invariant.1 ∙ ap (map g.E.FixedEntry.text) all_block
+    let all : c.loop-at.at ≡ length block = omega (arith, c.loop-at.auto.at-end, c.loop-at-test.false) in
+    let all_block : take c.loop-at.at block ≡ block = take_all c.loop-at.at block (omega (arith, c.loop-at-test.false)) in
+    ap (λ n. take n c.loop-at.texts) (sym all) ∙ c.loop-at.invariant.1 ∙ ap (map g.E.FixedEntry.text) all_block
 
 pub returns-clause-values : goal.returns-clause-values
 returns-clause-values g c =
     let block = c.args.block.now in
-    let all_block : take c.spell_each.at block ≡ block = take_all c.spell_each.at block (omega (arith, c.spell_each-test.false)) in
-    subst (AllByRecursion g.E.FixedEntry.is_value) all_block c.spell_each.invariant.2
+    let all_block : take c.loop-at.at block ≡ block = take_all c.loop-at.at block (omega (arith, c.loop-at-test.false)) in
+    subst (AllByRecursion g.E.FixedEntry.is_value) all_block c.loop-at.invariant.2

@@ -3,5 +3,5 @@ use Rattle.std.specs.List.{AllByRecursion}
 use Rattle.core_images.proofs.blocks.spell_block.Given as goal
 
 -- the texts so far; their entries are values
-abbrev pub invariant-spell_each : goal.invariant-spell_each
-invariant-spell_each g l = (length l.texts ≡ 256) × (take l.at l.texts ≡ map g.E.FixedEntry.text (take l.at l.block)) × AllByRecursion g.E.FixedEntry.is_value (take l.at l.block)
+abbrev pub invariant-loop-at : goal.invariant-loop-at
+invariant-loop-at g l = (length l.texts ≡ 256) × (take l.at l.texts ≡ map g.E.FixedEntry.text (take l.at l.block)) × AllByRecursion g.E.FixedEntry.is_value (take l.at l.block)

@@ -10,17 +10,17 @@ pub returns : goal.returns
 returns g c =
     let key = λ (text : List ℕ). g.E.SketchEntry.key (g.E.FixedEntry.entry_of text) in
     λ both others.
-    let high : MAX_THETA < c.subtract_each.differences = grind (arith, nat_tests, both) in
-    let low : c.subtract_each.hashes ≤ MAX_THETA = grind (arith, nat_tests, both) in
-    none_above key c.args.block.now c.subtract_each.text-index c.subtract_each.last (λ others. ascends_from c.args.before (map key c.args.block.now ++ others)) c.subtract_each-test.false (c.subtract_each.invariant.0 high low) others
+    let high : MAX_THETA < c.loop-text.differences = grind (arith, nat_tests, both) in
+    let low : c.loop-text.hashes ≤ MAX_THETA = grind (arith, nat_tests, both) in
+    none_above key c.args.block.now c.loop-text.text-index c.loop-text.last (λ others. ascends_from c.args.before (map key c.args.block.now ++ others)) c.loop-text-test.false (c.loop-text.invariant.0 high low) others
 
-pub subtract_each-preserved : goal.subtract_each-preserved
-subtract_each-preserved g c =
+pub loop-text-preserved : goal.loop-text-preserved
+loop-text-preserved g c =
     let key = λ (text : List ℕ). g.E.SketchEntry.key (g.E.FixedEntry.entry_of text) in
-    let inv = c.subtract_each.invariant in
+    let inv = c.loop-text.invariant in
     let hash : c.hash-hash.result ≡ key c.text-item.result = c.hash-hash.ensures ∙ ap g.E.SketchEntry.key c.of_text.ensures in (
       λ high low.
-          let up = differs_up c.subtract_each.differences c.subtract_each.last c.hash-hash.result c.subtract_each.hashes inv.1 c.subtract_each.auto.last-fits.fits c.hash-hash.type_inv high low in
-          rw hash (next_above key c.args.block.now c.subtract_each.text-index c.text-item.result c.subtract_each.last (λ others. ascends_from c.args.before (map key c.args.block.now ++ others)) c.subtract_each-test.true c.text-item.is (rw (sym hash) (up.0)) (inv.0 up.1 up.2)),
-      le_or_r c.subtract_each.hashes c.hash-hash.result,
+          let up = differs_up c.loop-text.differences c.loop-text.last c.hash-hash.result c.loop-text.hashes inv.1 c.loop-text.auto.last-fits.fits c.hash-hash.type_inv high low in
+          rw hash (next_above key c.args.block.now c.loop-text.text-index c.text-item.result c.loop-text.last (λ others. ascends_from c.args.before (map key c.args.block.now ++ others)) c.loop-text-test.true c.text-item.is (rw (sym hash) (up.0)) (inv.0 up.1 up.2)),
+      le_or_r c.loop-text.hashes c.hash-hash.result,
     )

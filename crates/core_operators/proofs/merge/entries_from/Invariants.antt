@@ -4,12 +4,12 @@ use Rattle.core_operators.specs.Union.{at_or_above}
 use Rattle.core_operators.proofs.merge.entries_from.Given as goal
 
 -- the skipped entries are below the hash
-abbrev pub invariant-pass_each : goal.invariant-pass_each
-invariant-pass_each g l = record {
+abbrev pub invariant-loop-first : goal.invariant-loop-first
+invariant-loop-first g l = record {
   left : at_or_above g.E.SketchEntry.key l.left l.from ≡ at_or_above g.E.SketchEntry.key l.entries l.from;
   ascending : IsAscending g.E.SketchEntry.key l.left;
 }
 
 -- the entries that are left
-abbrev pub decreases-pass_each : goal.decreases-pass_each
-decreases-pass_each g l = length l.left
+abbrev pub decreases-loop-first : goal.decreases-loop-first
+decreases-loop-first g l = length l.left

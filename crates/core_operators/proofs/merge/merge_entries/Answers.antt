@@ -25,8 +25,8 @@ merge_ascending-requires-clause-ascending g c =
     rw c.entries_from.ensures (ascending-filter g.S.Entry.SketchEntry.key _ c.in-Some.ascending.now (up g (goal.at.merge_ascending-requires-clause-ascending g c).In-Some))
 
 -- ---- otherwise they are read one by one
-pub merge_each-init : goal.merge_each-init
-merge_each-init g c =
+pub loop-entry-init : goal.loop-entry-init
+loop-entry-init g c =
     let key = g.S.Entry.SketchEntry.key in
     let listing = g.S.EntrySketch.listing c.args.sketch in
     let hashes = c.entries-entries.ensures.hashes in
@@ -39,32 +39,32 @@ merge_each-init g c =
     })
 
 -- an entry was read
-read : (g : Over) (c : goal.In-Some-next_entry g) → IsRead c.merge_each.invariant.merged c.args.from c.in-Some-next_entry.entry.now c.next_entry.new.entries.rest
+read : (g : Over) (c : goal.In-Some-next_entry g) → IsRead c.loop-entry.invariant.merged c.args.from c.in-Some-next_entry.entry.now c.next_entry.new.entries.rest
 read g c =
-    let was = c.merge_each.invariant in
-    is_read c.merge_each.entries.rest c.args.from was.merged was.lesser_is c.in-Some-next_entry.ensures (g.met.P.UnionMergePolicy.keeps_hash c.args.policy.now) was.apart
+    let was = c.loop-entry.invariant in
+    is_read c.loop-entry.entries.rest c.args.from was.merged was.lesser_is c.in-Some-next_entry.ensures (g.met.P.UnionMergePolicy.keeps_hash c.args.policy.now) was.apart
 
-pub merge_each-smaller : goal.merge_each-smaller
-merge_each-smaller g c = read_fewer g.S.Entry.SketchEntry.key c.args.ordered c.merge_each.lesser c.merge_each.entries.rest c.in-Some-next_entry.ensures
+pub loop-entry-smaller : goal.loop-entry-smaller
+loop-entry-smaller g c = read_fewer g.S.Entry.SketchEntry.key c.args.ordered c.loop-entry.lesser c.loop-entry.entries.rest c.in-Some-next_entry.ensures
 
-pub merge_each-smaller-then-hash-from : goal.merge_each-smaller-then-hash-from
-merge_each-smaller-then-hash-from g c = read_fewer g.S.Entry.SketchEntry.key c.args.ordered c.merge_each.lesser c.merge_each.entries.rest c.in-Some-next_entry.ensures
+pub loop-entry-smaller-then-hash-from : goal.loop-entry-smaller-then-hash-from
+loop-entry-smaller-then-hash-from g c = read_fewer g.S.Entry.SketchEntry.key c.args.ordered c.loop-entry.lesser c.loop-entry.entries.rest c.in-Some-next_entry.ensures
 
-pub merge_each-preserved-then-hash-from : goal.merge_each-preserved-then-hash-from
-merge_each-preserved-then-hash-from g c =
-    let it = read g (goal.at.merge_each-preserved-then-hash-from g c).In-Some-next_entry in
+pub loop-entry-preserved-then-hash-from : goal.loop-entry-preserved-then-hash-from
+loop-entry-preserved-then-hash-from g c =
+    let it = read g (goal.at.loop-entry-preserved-then-hash-from g c).In-Some-next_entry in
     record {
       merged = it.passed (elim c.then-hash-from.branch [
         | then-hash-from-via-then-hash-from w ↦ inl (rw (← c.hash-hash.ensures) w.if-hash-from.true)
         | then-hash-from-via-else-hash-from+then-hash-theta w ↦ inr (rw (← c.hash-hash.ensures) w.if-hash-theta.true)
       ]);
-      lesser_is = c.merge_each.invariant.lesser_is;
+      lesser_is = c.loop-entry.invariant.lesser_is;
       apart = it.apart.1;
     }
 
-pub merge_each-preserved : goal.merge_each-preserved
-merge_each-preserved g c =
-    let it = read g (goal.at.merge_each-preserved g c).In-Some-next_entry in
+pub loop-entry-preserved : goal.loop-entry-preserved
+loop-entry-preserved g c =
+    let it = read g (goal.at.loop-entry-preserved g c).In-Some-next_entry in
     record {
       merged = (it.next _ c.hash-hash.ensures c.if-hash-from.false c.if-hash-theta.false).merged _ (rw c.if-not-branch.false at c.in_ok-merge_one.ensures.after) (c.in_ok-merge_one.ensures.allowed c.if-not-branch.false);
       lesser_is = c.min-lesser-in-Some-next_entry.ensures ∙ ap (λ t. min c.args.theta t) c.retention_theta-in-Some-next_entry.ensures.theta;
@@ -98,8 +98,8 @@ returns-then-not-branch-clause-refused g c =
 -- ---- no entry is left, or the next one is past
 pub returns-clause-after : goal.returns-clause-after
 returns-clause-after g c =
-    let was = c.merge_each.invariant in
+    let was = c.loop-entry.invariant in
     elim c.match-next_entry.branch [
-      | in_default-next_entry w ↦ merged_all c.merge_each.entries.rest c.args.from was.merged was.lesser_is w.in_default-next_entry.ensures
-      | in-Some-next_entry+then-is_past w ↦ merged_below c.merge_each.entries.rest c.args.from was.merged was.lesser_is w.in-Some-next_entry.ensures (rw (← w.hash-hash.ensures) (w.is_past.ensures.0 w.if-is_past.true))
+      | in_default-next_entry w ↦ merged_all c.loop-entry.entries.rest c.args.from was.merged was.lesser_is w.in_default-next_entry.ensures
+      | in-Some-next_entry+then-is_past w ↦ merged_below c.loop-entry.entries.rest c.args.from was.merged was.lesser_is w.in-Some-next_entry.ensures (rw (← w.hash-hash.ensures) (w.is_past.ensures.0 w.if-is_past.true))
     ]

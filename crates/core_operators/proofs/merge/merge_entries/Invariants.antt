@@ -5,8 +5,8 @@ use Rattle.core_operators.proofs.MergedListing.{IsMergedBut}
 use Rattle.core_operators.proofs.merge.merge_entries.Given as goal
 
 -- of the entries from the hash on, those left are still to merge into the table
-abbrev pub invariant-merge_each : goal.invariant-merge_each
-invariant-merge_each g l =
+abbrev pub invariant-loop-entry : goal.invariant-loop-entry
+invariant-loop-entry g l =
     let key = g.S.Entry.SketchEntry.key in
     record {
       merged : IsMergedBut key (g.P.UnionMergePolicy.merges l.policy) (g.P.UnionMergePolicy.refuses l.policy) l.theta l.ordered (at_or_above key (g.S.EntrySketch.listing l.fn.sketch) l.from) l.initial.table.map (at_or_above key l.entries.rest l.from) l.table.map;
@@ -15,5 +15,5 @@ invariant-merge_each g l =
     }
 
 -- the entries that are left
-abbrev pub decreases-merge_each : goal.decreases-merge_each
-decreases-merge_each g l = length l.entries.rest
+abbrev pub decreases-loop-entry : goal.decreases-loop-entry
+decreases-loop-entry g l = length l.entries.rest

@@ -6,17 +6,17 @@ use Rattle.core_operators.proofs.Metadata.{reported_empty, reported_nonempty}
 use Rattle.core_operators.proofs.ranges.inputs_of.Goals as goal
 use Rattle.core_operators.proofs.ranges.inputs_of.Goals.{in-Empty, in-NonEmpty+else-own-seed_hash}
 
-pub read_each-preserved : goal.read_each-preserved
-read_each-preserved g c =
+pub loop-sketch-preserved : goal.loop-sketch-preserved
+loop-sketch-preserved g c =
     let key = g.S.Entry.SketchEntry.key in
     let shown = g.S.KeySketch.shown in
     let listing = g.S.EntrySketch.listing in
     let sketches = c.args.sketches.now in
-    let i = c.read_each.sketch-index in
+    let i = c.loop-sketch.sketch-index in
     let s = c.sketch-item.result in
     let input : IsInput key (shown s) (listing s) = record { lawful = c.metadata.ensures.is_sound; hashes = c.entries.ensures.hashes } in
-    let shape : drop i sketches ≡ s ∷ drop (i + 1) sketches = drop_more sketches i s c.read_each-test.true ∙ ap (λ x. x ∷ drop (i + 1) sketches) (sym c.sketch-item.is) in
-    let known : IsSurvey key shown listing c.args.seed_hash sketches (s ∷ drop (i + 1) sketches) c.read_each.inputs.empty c.read_each.inputs.theta = rw (← shape) c.read_each.invariant.known in
+    let shape : drop i sketches ≡ s ∷ drop (i + 1) sketches = drop_more sketches i s c.loop-sketch-test.true ∙ ap (λ x. x ∷ drop (i + 1) sketches) (sym c.sketch-item.is) in
+    let known : IsSurvey key shown listing c.args.seed_hash sketches (s ∷ drop (i + 1) sketches) c.loop-sketch.inputs.empty c.loop-sketch.inputs.theta = rw (← shape) c.loop-sketch.invariant.known in
     record {
       known = elim c.match-metadata.branch [
         | in-Empty w ↦
@@ -24,7 +24,7 @@ read_each-preserved g c =
             rw w.inputs-is (survey-empty key shown listing c.args.seed_hash sketches (drop (i + 1) sketches) s _ _ known input empty)
         | in-NonEmpty+else-own-seed_hash w ↦
             let reported = reported_nonempty (shown s) _ _ _ _ (sym w.in-NonEmpty.is ∙ c.metadata.ensures.metadata) in
-            let theta : w.min.result ≡ min c.read_each.inputs.theta (shown s).theta = w.min.ensures ∙ ap (λ t. min c.read_each.inputs.theta t) (sym reported.theta_is) in
+            let theta : w.min.result ≡ min c.loop-sketch.inputs.theta (shown s).theta = w.min.ensures ∙ ap (λ t. min c.loop-sketch.inputs.theta t) (sym reported.theta_is) in
             rw (w.inputs-is, theta) (survey-next key shown listing c.args.seed_hash sketches (drop (i + 1) sketches) s _ _ known input reported.nonempty (sym w.if-own-seed_hash.false ∙ sym reported.seed_is))
       ];
     }

@@ -5,8 +5,8 @@ use Rattle.core_operators.proofs.JoinedRanges.{HasMergedBelow, merged-start, mer
 use Rattle.core_operators.proofs.ranges.merge_all.Goals as goal
 use Rattle.core_operators.proofs.ranges.merge_all.Goals.{then-ordered, else-ordered, then-to-theta+in_ok-trim, else-to-theta}
 
-pub merge_ranges-init : goal.merge_ranges-init
-merge_ranges-init g c =
+pub loop-from-init : goal.loop-from-init
+loop-from-init g c =
     let merges = g.P.UnionMergePolicy.merges c.args.policy.now in
     let refuses = g.P.UnionMergePolicy.refuses c.args.policy.now in
     record {
@@ -24,13 +24,13 @@ merge_ranges-init g c =
 
 pub merge_range-requires-clause-of_sketch : goal.merge_range-requires-clause-of_sketch
 merge_range-requires-clause-of_sketch g c =
-    let lg : c.merge_ranges.table.map.lg_nom ≡ c.args.table.now.map.lg_nom = ap (λ t. t.lg_nom) c.merge_ranges.invariant.merged.made_with in
+    let lg : c.loop-from.table.map.lg_nom ≡ c.args.table.now.map.lg_nom = ap (λ t. t.lg_nom) c.loop-from.invariant.merged.made_with in
     rw lg c.requires.of_sketch
 
 pub returns-in_err-merge_range-clause-made_with : goal.returns-in_err-merge_range-clause-made_with
 returns-in_err-merge_range-clause-made_with g c =
-    let was = c.merge_ranges.invariant.merged.made_with in
-    made_with_next c.args.table.now.map c.merge_ranges.table.map c.merge_range.new.table.map _ was c.in_err-merge_range.ensures.made_with
+    let was = c.loop-from.invariant.merged.made_with in
+    made_with_next c.args.table.now.map c.loop-from.table.map c.merge_range.new.table.map _ was c.in_err-merge_range.ensures.made_with
 
 pub returns-in_err-merge_range-clause-refused : goal.returns-in_err-merge_range-clause-refused
 returns-in_err-merge_range-clause-refused g c =
@@ -38,34 +38,34 @@ returns-in_err-merge_range-clause-refused g c =
     let merges = g.P.UnionMergePolicy.merges c.args.policy.now in
     let refuses = g.P.UnionMergePolicy.refuses c.args.policy.now in
     let keeps = g.met.P.UnionMergePolicy.keeps_hash c.args.policy.now in
-    let was = c.merge_ranges.invariant in
+    let was = c.loop-from.invariant in
     rw (p.1, p.2)
     (all_refused g.S.Entry.SketchEntry.key g.S.KeySketch.shown g.S.EntrySketch.listing merges refuses keeps
-    c.args.table.now.map c.merge_ranges.table.map c.args.theta c.merge_ranges.from c.merge_ranges.to _ c.args.sketches.now _
+    c.args.table.now.map c.loop-from.table.map c.args.theta c.loop-from.from c.loop-from.to _ c.args.sketches.now _
     c.requires.inputs was.high c.requires.high was.merged c.in_err-merge_range.ensures.refused)
 
 pub returns-in_err-trim-clause-made_with : goal.returns-in_err-trim-clause-made_with
 returns-in_err-trim-clause-made_with g c =
-    let was = c.merge_ranges.invariant.merged.made_with in
+    let was = c.loop-from.invariant.merged.made_with in
     rw c.in_err-trim.ensures.err
-    (made_with_next c.args.table.now.map c.merge_ranges.table.map c.merge_range.new.table.map _ was c.in_ok-merge_range.ensures.made_with)
+    (made_with_next c.args.table.now.map c.loop-from.table.map c.merge_range.new.table.map _ was c.in_ok-merge_range.ensures.made_with)
 
 pub next_bound-to-requires-clause-low : goal.next_bound-to-requires-clause-low
 next_bound-to-requires-clause-low g c =
-    let before : c.merge_ranges.from < c.args.theta = omega (arith, c.merge_ranges-test.true, c.min.ensures) in
-    omega (arith, c.merge_ranges.invariant.more before)
+    let before : c.loop-from.from < c.args.theta = omega (arith, c.loop-from-test.true, c.min.ensures) in
+    omega (arith, c.loop-from.invariant.more before)
 
 pub next_bound-to-requires-clause-high : goal.next_bound-to-requires-clause-high
-next_bound-to-requires-clause-high g c = c.merge_ranges.invariant.high
+next_bound-to-requires-clause-high g c = c.loop-from.invariant.high
 
-pub merge_ranges-smaller : goal.merge_ranges-smaller
-merge_ranges-smaller g c =
-    let before : c.merge_ranges.from < c.args.theta = omega (arith, c.merge_ranges-test.true, c.min.ensures) in
-    let further : c.merge_ranges.from < c.merge_ranges.to = c.merge_ranges.invariant.more before in
+pub loop-from-smaller : goal.loop-from-smaller
+loop-from-smaller g c =
+    let before : c.loop-from.from < c.args.theta = omega (arith, c.loop-from-test.true, c.min.ensures) in
+    let further : c.loop-from.from < c.loop-from.to = c.loop-from.invariant.more before in
     omega (arith, before, further)
 
-pub merge_ranges-preserved : goal.merge_ranges-preserved
-merge_ranges-preserved g c =
+pub loop-from-preserved : goal.loop-from-preserved
+loop-from-preserved g c =
     let key = g.S.Entry.SketchEntry.key in
     let merges = g.P.UnionMergePolicy.merges c.args.policy.now in
     let refuses = g.P.UnionMergePolicy.refuses c.args.policy.now in
@@ -74,16 +74,16 @@ merge_ranges-preserved g c =
     let xs = flat_map g.S.EntrySketch.listing sketches in
     let first = c.args.table.now.map in
     let next = c.merge_range.new.table.map in
-    let from = c.merge_ranges.from in
-    let to = c.merge_ranges.to in
+    let from = c.loop-from.from in
+    let to = c.loop-from.to in
     let good = c.retention_theta-own.ensures.sound.kept in
     let nonzero = nonzero_listed key g.S.KeySketch.shown g.S.EntrySketch.listing sketches c.requires.inputs in
     let ensures = c.in_ok-merge_range.ensures in
-    let was = c.merge_ranges.invariant in
-    let before : from < c.args.theta = omega (arith, c.merge_ranges-test.true, c.min.ensures) in
+    let was = c.loop-from.invariant in
+    let before : from < c.args.theta = omega (arith, c.loop-from-test.true, c.min.ensures) in
     let further : from < to = was.more before in
     let merged : HasMergedBelow key merges refuses first next xs to =
-    merged-range key merges refuses keeps first c.merge_ranges.table.map next xs from to good nonzero
+    merged-range key merges refuses keeps first c.loop-from.table.map next xs from to good nonzero
     (omega (arith, further)) (omega (arith, was.high, c.requires.high)) was.merged ensures.after ensures.made_with in
     record {
       within = was.high;
@@ -101,10 +101,10 @@ returns-clause-whole g c =
     let refuses = g.P.UnionMergePolicy.refuses c.args.policy.now in
     let keeps = g.met.P.UnionMergePolicy.keeps_hash c.args.policy.now in
     let good = c.retention_theta-own.ensures.sound.kept in
-    let now = c.merge_ranges.table.map in
-    let reached : min c.args.theta now.kept.theta ≤ c.merge_ranges.from = omega (arith, c.merge_ranges-test.false, c.min.ensures, c.retention_theta.ensures.theta) in
-    merged-all g.S.Entry.SketchEntry.key merges refuses keeps c.args.table.now.map now _ c.args.theta c.merge_ranges.from
-    good c.requires.high reached c.merge_ranges.invariant.merged
+    let now = c.loop-from.table.map in
+    let reached : min c.args.theta now.kept.theta ≤ c.loop-from.from = omega (arith, c.loop-from-test.false, c.min.ensures, c.retention_theta.ensures.theta) in
+    merged-all g.S.Entry.SketchEntry.key merges refuses keeps c.args.table.now.map now _ c.args.theta c.loop-from.from
+    good c.requires.high reached c.loop-from.invariant.merged
 
 pub returns-clause-made_with : goal.returns-clause-made_with
-returns-clause-made_with g c = c.merge_ranges.invariant.merged.made_with
+returns-clause-made_with g c = c.loop-from.invariant.merged.made_with

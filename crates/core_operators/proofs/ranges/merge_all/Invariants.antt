@@ -3,8 +3,8 @@ use Rattle.core_operators.proofs.JoinedRanges.{HasMergedBelow}
 use Rattle.core_operators.proofs.ranges.merge_all.Given as goal
 
 -- all entries below `from` were merged
-abbrev pub invariant-merge_ranges : goal.invariant-merge_ranges
-invariant-merge_ranges g l = record {
+abbrev pub invariant-loop-from : goal.invariant-loop-from
+invariant-loop-from g l = record {
   within : l.from ≤ l.theta;
   more : l.from < l.theta → l.from < l.to;
   high : l.to ≤ l.theta;
@@ -12,5 +12,5 @@ invariant-merge_ranges g l = record {
 }
 
 -- what is left below theta
-abbrev pub decreases-merge_ranges : goal.decreases-merge_ranges
-decreases-merge_ranges g l = l.theta - l.from
+abbrev pub decreases-loop-from : goal.decreases-loop-from
+decreases-loop-from g l = l.theta - l.from

@@ -17,18 +17,18 @@ no_entries : {X : Type 0} (key : X → ℕ) (listing : List X) → map key listi
 no_entries key [] none = refl
 no_entries key (x ∷ xs) none = absurd (cc)
 
-pub merge_each-preserved : goal.merge_each-preserved
-merge_each-preserved g c =
+pub loop-sketch-preserved : goal.loop-sketch-preserved
+loop-sketch-preserved g c =
     let key = g.S.Entry.SketchEntry.key in
     let listing = g.S.EntrySketch.listing in
     let step_of = merge_step (fold_merges key (g.P.UnionMergePolicy.merges c.args.policy.now) (g.P.UnionMergePolicy.refuses c.args.policy.now)) never in
     let first = c.args.table.now.map in
     let k = 2 ^ first.lg_nom in
-    let was = c.merge_each.invariant in
-    let before = c.merge_each.table.map in
+    let was = c.loop-sketch.invariant in
+    let before = c.loop-sketch.table.map in
     let now = c.match-metadata.table.map in
     let s = c.sketch-item.result in
-    let next = in_range_next key k c.args.from c.args.to step_of listing c.args.sketches.now c.merge_each.sketch-index s (unmarked first.kept) (unmarked before.kept) (unmarked now.kept) c.merge_each-test.true c.sketch-item.is was.merged in
+    let next = in_range_next key k c.args.from c.args.to step_of listing c.args.sketches.now c.loop-sketch.sketch-index s (unmarked first.kept) (unmarked before.kept) (unmarked now.kept) c.loop-sketch-test.true c.sketch-item.is was.merged in
     let folded : List g.row.S-Entry.Denot → Retained (Fold g.row.S-Entry.Denot) = λ ys. after_upserts (fold_key key) k step_of (map Value (below key (at_or_above key ys c.args.from) c.args.to)) (unmarked before.kept) in
     elim c.match-metadata.branch [
       | in-Empty w ↦
@@ -56,13 +56,13 @@ returns-in_err-merge_entries-in-NonEmpty-clause-refused g c =
     let key = g.S.Entry.SketchEntry.key in
     let listing = g.S.EntrySketch.listing in
     let sketches = c.args.sketches.now in
-    let i : ℕ = c.merge_each.sketch-index in
+    let i : ℕ = c.loop-sketch.sketch-index in
     let s = c.sketch-item.result in
-    let left : drop i sketches ≡ s ∷ drop (i + 1) sketches = drop_more sketches i s c.merge_each-test.true ∙ ap (λ x. x ∷ drop (i + 1) sketches) (sym c.sketch-item.is) in
+    let left : drop i sketches ≡ s ∷ drop (i + 1) sketches = drop_more sketches i s c.loop-sketch-test.true ∙ ap (λ x. x ∷ drop (i + 1) sketches) (sym c.sketch-item.is) in
     let shape : sketches ≡ take i sketches ++ s ∷ drop (i + 1) sketches = sym (take-append-drop i sketches) ∙ ap (λ ys. take i sketches ++ ys) left in
     rw (p.1, p.2) (elim c.in_err-merge_entries-in-NonEmpty.ensures.refused [
       | inl out ↦ inl out
       | inr policy ↦
-          let refused = range_refused key _ _ c.args.table.now.map c.args.from c.args.to c.merge_each.table.map.kept _ (listing s) c.merge_each.invariant.merged policy.1 in
+          let refused = range_refused key _ _ c.args.table.now.map c.args.from c.args.to c.loop-sketch.table.map.kept _ (listing s) c.loop-sketch.invariant.merged policy.1 in
           inr (policy.0, (take i sketches, s, drop (i + 1) sketches, shape, refused))
     ])

@@ -8,8 +8,8 @@ use Rattle.core_operators.specs.Union.{at_or_above}
 use Rattle.core_operators.proofs.ranges.merge_range.Given as goal
 
 -- the entries of the sketches that were read are merged
-abbrev pub invariant-merge_each : goal.invariant-merge_each
-invariant-merge_each g l =
+abbrev pub invariant-loop-sketch : goal.invariant-loop-sketch
+invariant-loop-sketch g l =
     let key = g.S.Entry.SketchEntry.key in
     let k = 2 ^ l.initial.table.map.lg_nom in
     let step_of = merge_step (fold_merges key (g.P.UnionMergePolicy.merges l.policy) (g.P.UnionMergePolicy.refuses l.policy)) never in

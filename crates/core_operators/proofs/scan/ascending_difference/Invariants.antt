@@ -3,8 +3,8 @@ use Rattle.core_operators.proofs.DifferenceEntries.{IsSifting, to_keep}
 use Rattle.core_operators.proofs.scan.ascending_difference.Given as goal
 
 -- the entries kept so far, and how far both lists are read
-abbrev pub invariant-sift_blocks : goal.invariant-sift_blocks
-invariant-sift_blocks g l =
+abbrev pub invariant-loop-first : goal.invariant-loop-first
+invariant-loop-first g l =
     let key = g.E.SketchEntry.key in
     let other = g.F.SketchEntry.key in
     record {
@@ -13,5 +13,5 @@ invariant-sift_blocks g l =
       few : l.compared + length l.left + length l.others_left ≤ l.initial.compared + length l.fn.entries + length l.fn.others;
     }
 
-abbrev pub decreases-sift_blocks : goal.decreases-sift_blocks
-decreases-sift_blocks g l = length l.left
+abbrev pub decreases-loop-first : goal.decreases-loop-first
+decreases-loop-first g l = length l.left

@@ -6,12 +6,12 @@ use Rattle.core_operators.proofs.ReadPast.{left_at}
 use Rattle.core_operators.proofs.scan.push_lacking.Goals as goal
 use Rattle.core_operators.proofs.scan.push_lacking.Goals.{then-is_none+in_ok-clone+in_ok-push, else-is_none}
 
-pub look_up_each-preserved : goal.look_up_each-preserved
-look_up_each-preserved g c =
-    let was = c.look_up_each.invariant in
+pub loop-entry-preserved : goal.loop-entry-preserved
+loop-entry-preserved g c =
+    let was = c.loop-entry.invariant in
     let x = c.entry-item.result in
-    let left = drop (c.look_up_each.entry-index + 1) c.args.entries.now in
-    let shape = left_at c.args.entries.now c.look_up_each.entry-index x c.look_up_each-test.true c.entry-item.is in
+    let left = drop (c.loop-entry.entry-index + 1) c.args.entries.now in
+    let shape = left_at c.args.entries.now c.loop-entry.entry-index x c.loop-entry-test.true c.entry-item.is in
     let found = c.found_by_halves in
     let key = g.E.SketchEntry.key in
     let other = g.F.SketchEntry.key in
@@ -21,10 +21,10 @@ look_up_each-preserved g c =
         | then-is_none+in_ok-clone+in_ok-push w ↦
             let same : w.in_ok-clone.field-0 ≡ x = c.requires.clones_equal x w.in_ok-clone.field-0 w.in_ok-clone.ensures.cases in
             let absent = unfound (λ r. r.now) found.result c.is_none.result c.is_none.ensures w.if-is_none.true _ found.ensures.found in
-            rw (w.kept-is, w.in_ok-push.ensures.items, same) (kept_on key other theta c.look_up_each.kept.items x left c.args.others.now c.hash-hash.result c.hash-hash.ensures (omega (arith, c.if-hash-theta.false)) absent ∙ rw shape at was.rest)
+            rw (w.kept-is, w.in_ok-push.ensures.items, same) (kept_on key other theta c.loop-entry.kept.items x left c.args.others.now c.hash-hash.result c.hash-hash.ensures (omega (arith, c.if-hash-theta.false)) absent ∙ rw shape at was.rest)
         | else-is_none w ↦
             let there = was_found (λ r. r.now) found.result c.is_none.result c.is_none.ensures w.if-is_none.false _ found.ensures.found in
-            rw w.kept-is (dropped_on key other theta c.look_up_each.kept.items x left c.args.others.now c.hash-hash.result c.hash-hash.ensures (omega (arith, c.if-hash-theta.false)) there ∙ rw shape at was.rest)
+            rw w.kept-is (dropped_on key other theta c.loop-entry.kept.items x left c.args.others.now c.hash-hash.result c.hash-hash.ensures (omega (arith, c.if-hash-theta.false)) there ∙ rw shape at was.rest)
       ];
       ascending = ascending-tail key x left (rw shape at was.ascending);
       grows = omega (arith, was.grows, found.ensures.grows);
@@ -33,9 +33,9 @@ look_up_each-preserved g c =
 
 pub returns-then-hash-theta-clause-kept : goal.returns-then-hash-theta-clause-kept
 returns-then-hash-theta-clause-kept g c =
-    let was = c.look_up_each.invariant in
+    let was = c.loop-entry.invariant in
     let x = c.entry-item.result in
-    let done = c.look_up_each.kept.items in
-    let shape = left_at c.args.entries.now c.look_up_each.entry-index x c.look_up_each-test.true c.entry-item.is in
+    let done = c.loop-entry.kept.items in
+    let shape = left_at c.args.entries.now c.loop-entry.entry-index x c.loop-entry-test.true c.entry-item.is in
     let stops = keeps_stop g.E.SketchEntry.key g.F.SketchEntry.key c.args.theta x _ c.args.others.now (rw shape at was.ascending) (rw (← c.hash-hash.ensures) (omega (arith, c.if-hash-theta.true))) in
     sym (append-nil done) ∙ ap (λ zs. done ++ zs) (sym stops) ∙ rw shape at was.rest

@@ -4,8 +4,8 @@ use Rattle.core_operators.proofs.DifferenceEntries.{to_keep}
 use Rattle.core_operators.proofs.scan.push_lacking.Given as goal
 
 -- the entries kept so far, then those to keep among the entries left, are those at first and those to keep of all
-abbrev pub invariant-look_up_each : goal.invariant-look_up_each
-invariant-look_up_each g l =
+abbrev pub invariant-loop-entry : goal.invariant-loop-entry
+invariant-loop-entry g l =
     let key = g.E.SketchEntry.key in
     let other = g.F.SketchEntry.key in
     record {

@@ -4,7 +4,7 @@ use Rattle.core_operators.proofs.ReadPast.{behind, some_first, no_first, counted
 use Rattle.core_operators.proofs.DifferenceEntries.{IsSifting, sifted_on, whole_at_end, whole_with_none, whole_past}
 use Rattle.std.proofs.lemmas.Bool.Decides.{nat_tests}
 use Rattle.core_operators.proofs.scan.sift.Goals as goal
-use Rattle.core_operators.proofs.scan.sift.Goals.{else-compare_each-test, then-compare_each-test+in_default, then-compare_each-test+in-Some+in_default-first, then-compare_each-test+in-Some+in-Some-first+then-hash-theta}
+use Rattle.core_operators.proofs.scan.sift.Goals.{else-loop-count-test, then-loop-count-test+in_default, then-loop-count-test+in-Some+in_default-first, then-loop-count-test+in-Some+in-Some-first+then-hash-theta}
 
 in_slices : {X Y : Type 0} (key : X → ℕ) (other : Y → ℕ) (theta : ℕ) (whole left : List X) (others : List Y) (kept : List X) (n m : ℕ) → IsSifting key other theta whole (drop n left) (drop m others) kept → IsSifting key other theta whole (take (length left - n) (drop n left)) (take (length others - m) (drop m others)) kept
 in_slices key other theta whole left others kept n m is = rw (behind left n, behind others m) is
@@ -23,30 +23,30 @@ fewer_left left count more passed total hash other_hash more_is passed_is some w
     let n = length-drop passed left in
     rw (behind left passed) (omega (arith, n, less, one, some, was))
 
-pub compare_each-preserved : goal.compare_each-preserved
-compare_each-preserved g c =
+pub loop-count-preserved : goal.loop-count-preserved
+loop-count-preserved g c =
     let key = g.E.SketchEntry.key in
     let other = g.F.SketchEntry.key in
     record {
-      so_far = in_slices key other c.args.theta _ c.compare_each.left.now c.compare_each.others_left.now _ c.number_if.result c.number_if-in-compare_each.result
-          (sifted_on key other c.args.theta (λ r. r.now) _ c.compare_each.left.now c.compare_each.others_left.now c.in-Some.entry c.in-Some-first.other.now c.compare_each.kept c.compare_each.count c.hash-hash.result c.hash-known.result c.number_if-count.result c.number_if.result c.number_if-in-compare_each.result
-          c.in-Some.ensures.value c.in-Some-first.ensures.value (omega (arith, c.compare_each.invariant.room, c.compare_each-test.true)) c.hash-hash.ensures c.hash-known.ensures (omega (arith, c.if-hash-theta.false)) c.number_if-count.ensures.value c.number_if.ensures.value c.number_if-in-compare_each.ensures.value c.compare_each.invariant.so_far);
-      room = length-set _ _ _ ∙ c.compare_each.invariant.room;
-      limited = omega (arith, c.number_if-count.ensures.small, c.compare_each-test.true);
-      fewer = fewer_left c.compare_each.left.now c.compare_each.count c.number_if-count.result c.number_if.result (length c.args.entries.now) c.hash-hash.result c.hash-known.result c.number_if-count.ensures.value c.number_if.ensures.value (some_first c.compare_each.left.now c.in-Some.entry.now c.in-Some.ensures.value) c.compare_each.invariant.fewer;
-      some = counted_some c.compare_each.left.now c.compare_each.others_left.now c.compare_each.compared c.tick.new.self c.hash-hash.result c.hash-known.result c.number_if.result c.number_if-in-compare_each.result c.tick.ensures (some_first c.compare_each.left.now c.in-Some.entry.now c.in-Some.ensures.value) (some_first c.compare_each.others_left.now c.in-Some-first.other.now c.in-Some-first.ensures.value) c.number_if.ensures.value c.number_if-in-compare_each.ensures.value c.number_if.ensures.small c.number_if-in-compare_each.ensures.small _ c.compare_each.invariant.some;
-      few = counted_few c.compare_each.left.now c.compare_each.others_left.now c.compare_each.compared c.tick.new.self c.hash-hash.result c.hash-known.result c.number_if.result c.number_if-in-compare_each.result c.tick.ensures (some_first c.compare_each.left.now c.in-Some.entry.now c.in-Some.ensures.value) (some_first c.compare_each.others_left.now c.in-Some-first.other.now c.in-Some-first.ensures.value) c.number_if.ensures.value c.number_if-in-compare_each.ensures.value c.number_if.ensures.small c.number_if-in-compare_each.ensures.small _ c.compare_each.invariant.few;
+      so_far = in_slices key other c.args.theta _ c.loop-count.left.now c.loop-count.others_left.now _ c.number_if.result c.number_if-in-loop-count.result
+          (sifted_on key other c.args.theta (λ r. r.now) _ c.loop-count.left.now c.loop-count.others_left.now c.in-Some.entry c.in-Some-first.other.now c.loop-count.kept c.loop-count.count c.hash-hash.result c.hash-known.result c.number_if-count.result c.number_if.result c.number_if-in-loop-count.result
+          c.in-Some.ensures.value c.in-Some-first.ensures.value (omega (arith, c.loop-count.invariant.room, c.loop-count-test.true)) c.hash-hash.ensures c.hash-known.ensures (omega (arith, c.if-hash-theta.false)) c.number_if-count.ensures.value c.number_if.ensures.value c.number_if-in-loop-count.ensures.value c.loop-count.invariant.so_far);
+      room = length-set _ _ _ ∙ c.loop-count.invariant.room;
+      limited = omega (arith, c.number_if-count.ensures.small, c.loop-count-test.true);
+      fewer = fewer_left c.loop-count.left.now c.loop-count.count c.number_if-count.result c.number_if.result (length c.args.entries.now) c.hash-hash.result c.hash-known.result c.number_if-count.ensures.value c.number_if.ensures.value (some_first c.loop-count.left.now c.in-Some.entry.now c.in-Some.ensures.value) c.loop-count.invariant.fewer;
+      some = counted_some c.loop-count.left.now c.loop-count.others_left.now c.loop-count.compared c.tick.new.self c.hash-hash.result c.hash-known.result c.number_if.result c.number_if-in-loop-count.result c.tick.ensures (some_first c.loop-count.left.now c.in-Some.entry.now c.in-Some.ensures.value) (some_first c.loop-count.others_left.now c.in-Some-first.other.now c.in-Some-first.ensures.value) c.number_if.ensures.value c.number_if-in-loop-count.ensures.value c.number_if.ensures.small c.number_if-in-loop-count.ensures.small _ c.loop-count.invariant.some;
+      few = counted_few c.loop-count.left.now c.loop-count.others_left.now c.loop-count.compared c.tick.new.self c.hash-hash.result c.hash-known.result c.number_if.result c.number_if-in-loop-count.result c.tick.ensures (some_first c.loop-count.left.now c.in-Some.entry.now c.in-Some.ensures.value) (some_first c.loop-count.others_left.now c.in-Some-first.other.now c.in-Some-first.ensures.value) c.number_if.ensures.value c.number_if-in-loop-count.ensures.value c.number_if.ensures.small c.number_if-in-loop-count.ensures.small _ c.loop-count.invariant.few;
     }
 
 pub returns-clause-whole : goal.returns-clause-whole
 returns-clause-whole g c = λ limited.
     let key = g.E.SketchEntry.key in
     let other = g.F.SketchEntry.key in
-    let left = c.compare_each.left.now in
-    let others = c.compare_each.others_left.now in
-    elim c.compare_each-test.branch [
-      | else-compare_each-test w ↦ absurd (omega (arith, limited, w.compare_each-test.false))
-      | then-compare_each-test+in_default w ↦ whole_at_end key other c.args.theta left others (no_first (λ r. r.now) w.first.result left w.in_default.not-Some w.first.ensures.value)
-      | then-compare_each-test+in-Some+in_default-first w ↦ whole_with_none key other c.args.theta left others (no_first (λ r. r.now) w.first-in-compare_each.result others w.in_default-first.not-Some w.first-in-compare_each.ensures.value)
-      | then-compare_each-test+in-Some+in-Some-first+then-hash-theta w ↦ whole_past key other c.args.theta left others w.in-Some.entry.now w.in-Some.ensures.value c.compare_each.invariant.so_far.ascending (rw (← w.hash-hash.ensures) (omega (arith, w.if-hash-theta.true)))
+    let left = c.loop-count.left.now in
+    let others = c.loop-count.others_left.now in
+    elim c.loop-count-test.branch [
+      | else-loop-count-test w ↦ absurd (omega (arith, limited, w.loop-count-test.false))
+      | then-loop-count-test+in_default w ↦ whole_at_end key other c.args.theta left others (no_first (λ r. r.now) w.first.result left w.in_default.not-Some w.first.ensures.value)
+      | then-loop-count-test+in-Some+in_default-first w ↦ whole_with_none key other c.args.theta left others (no_first (λ r. r.now) w.first-in-loop-count.result others w.in_default-first.not-Some w.first-in-loop-count.ensures.value)
+      | then-loop-count-test+in-Some+in-Some-first+then-hash-theta w ↦ whole_past key other c.args.theta left others w.in-Some.entry.now w.in-Some.ensures.value c.loop-count.invariant.so_far.ascending (rw (← w.hash-hash.ensures) (omega (arith, w.if-hash-theta.true)))
     ]

@@ -11,9 +11,9 @@ pub record Sifting {X Y R : Type 0} (key : X → ℕ) (other : Y → ℕ) (theta
   pub some : length entries + length others + 2 * before ≤ length left + length others_left + 2 * compared
   pub few : compared + length left + length others_left ≤ before + length entries + length others
 
-abbrev pub invariant-compare_each : goal.invariant-compare_each
-invariant-compare_each g l = Sifting g.E.SketchEntry.key g.F.SketchEntry.key l.theta (λ r. r.now) l.initial.left l.left l.initial.others_left l.others_left l.kept l.count l.initial.compared l.compared
+abbrev pub invariant-loop-count : goal.invariant-loop-count
+invariant-loop-count g l = Sifting g.E.SketchEntry.key g.F.SketchEntry.key l.theta (λ r. r.now) l.initial.left l.left l.initial.others_left l.others_left l.kept l.count l.initial.compared l.compared
 
 -- each comparison skips the first of at least one list
-abbrev pub decreases-compare_each : goal.decreases-compare_each
-decreases-compare_each g l = length l.left + length l.others_left
+abbrev pub decreases-loop-count : goal.decreases-loop-count
+decreases-loop-count g l = length l.left + length l.others_left

@@ -4,8 +4,8 @@ use Rattle.core_operators.proofs.Halving.{AreHalvings}
 use Rattle.core_operators.proofs.search.found_by_halves.Given as goal
 
 -- the hash has the same entry in the part that is left, which can be halved only so often
-abbrev pub invariant-halve : goal.invariant-halve
-invariant-halve g l =
+abbrev pub invariant-loop-entry : goal.invariant-loop-entry
+invariant-loop-entry g l =
     let key = g.E.SketchEntry.key in
     record {
       ascending : IsAscending key l.left;
@@ -14,5 +14,5 @@ invariant-halve g l =
       few : (k : ℕ) → length l.initial.left < 2 ^ k → AreHalvings (length l.left) l.initial.compared l.compared k;
     }
 
-abbrev pub decreases-halve : goal.decreases-halve
-decreases-halve g l = length l.left
+abbrev pub decreases-loop-entry : goal.decreases-loop-entry
+decreases-loop-entry g l = length l.left

@@ -4,8 +4,8 @@ use Rattle.core_operators.proofs.SharedEntries.{IsReading, found_from}
 use Rattle.core_operators.proofs.share.shared_by_halves.Given as goal
 
 -- the entries found so far, then those to be found for the entries that are left, are those found for all
-abbrev pub invariant-look_up_each : goal.invariant-look_up_each
-invariant-look_up_each g l =
+abbrev pub invariant-loop-entry : goal.invariant-loop-entry
+invariant-loop-entry g l =
     let left = drop l.entry-index l.short in
     let found = found_from g.E.SketchEntry.key (g.P.IntersectionMergePolicy.merges l.policy) (g.P.IntersectionMergePolicy.refuses l.policy) (g.met.P.IntersectionMergePolicy.keeps_hash l.policy) l.arrives in
     record {

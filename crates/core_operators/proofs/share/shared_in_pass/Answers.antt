@@ -5,8 +5,8 @@ use Rattle.core_operators.proofs.SharedEntries.{fewer_than, sharing-start, share
 use Rattle.core_operators.proofs.share.shared_in_pass.Goals as goal
 use Rattle.core_operators.proofs.share.shared_in_pass.Goals.{in_default, in-Some+in_default-first, in-Some+in-Some-first+then-hash-theta}
 
-pub share_each-init : goal.share_each-init
-share_each-init g c =
+pub loop-incoming-init : goal.loop-incoming-init
+loop-incoming-init g c =
     rw c.new-entries.ensures.items (record {
       so_far = sharing-start g.E.SketchEntry.key (g.P.IntersectionMergePolicy.merges c.args.policy.now) (g.P.IntersectionMergePolicy.refuses c.args.policy.now) (g.met.P.IntersectionMergePolicy.keeps_hash c.args.policy.now) c.args.content.now c.args.arriving.now c.args.theta c.requires.ascending c.requires.arriving_ascend;
       some = omega arith;
@@ -22,37 +22,37 @@ returns-in_err-found-clause-refused g c =
     let keeps = g.met.P.IntersectionMergePolicy.keeps_hash c.args.policy.now in
     rw (p.1, p.2) (elim c.in_err-found.ensures.refused [
       | inl o ↦ inl o
-      | inr r ↦ inr (r.0, refused_on key merges refuses keeps c.args.content.now c.share_each.left.now c.args.arriving.now c.share_each.arriving_left.now c.in-Some-first.existing.now c.in-Some.incoming.now c.args.theta c.share_each.entries.items c.hash-hash.result c.hash-known.result c.in-Some-first.ensures.value c.in-Some.ensures.value c.hash-hash.ensures c.hash-known.ensures (omega (arith, c.if-hash-theta.false)) r.1 r.2 c.share_each.invariant.so_far)
+      | inr r ↦ inr (r.0, refused_on key merges refuses keeps c.args.content.now c.loop-incoming.left.now c.args.arriving.now c.loop-incoming.arriving_left.now c.in-Some-first.existing.now c.in-Some.incoming.now c.args.theta c.loop-incoming.entries.items c.hash-hash.result c.hash-known.result c.in-Some-first.ensures.value c.in-Some.ensures.value c.hash-hash.ensures c.hash-known.ensures (omega (arith, c.if-hash-theta.false)) r.1 r.2 c.loop-incoming.invariant.so_far)
     ])
 
-pub share_each-preserved : goal.share_each-preserved
-share_each-preserved g c =
-    let left = c.share_each.left.now in
-    let right = c.share_each.arriving_left.now in
+pub loop-incoming-preserved : goal.loop-incoming-preserved
+loop-incoming-preserved g c =
+    let left = c.loop-incoming.left.now in
+    let right = c.loop-incoming.arriving_left.now in
     let key = g.E.SketchEntry.key in
     let merges = g.P.IntersectionMergePolicy.merges c.args.policy.now in
     let refuses = g.P.IntersectionMergePolicy.refuses c.args.policy.now in
     let keeps = g.met.P.IntersectionMergePolicy.keeps_hash c.args.policy.now in
-    let more = fewer_than c.share_each.entries.items c.in_ok-found.found in
-    let on = shared_on key merges refuses keeps c.args.content.now left c.args.arriving.now right c.in-Some-first.existing.now c.in-Some.incoming.now c.args.theta c.share_each.entries.items c.in_ok-found.found c.hash-hash.result c.hash-known.result c.number_if.result c.number_if-in-Some.result
-    c.in-Some-first.ensures.value c.in-Some.ensures.value c.hash-hash.ensures c.hash-known.ensures (omega (arith, c.if-hash-theta.false)) c.number_if.ensures.value c.number_if-in-Some.ensures.value c.in_ok-found.ensures.combined c.share_each.invariant.so_far in
+    let more = fewer_than c.loop-incoming.entries.items c.in_ok-found.found in
+    let on = shared_on key merges refuses keeps c.args.content.now left c.args.arriving.now right c.in-Some-first.existing.now c.in-Some.incoming.now c.args.theta c.loop-incoming.entries.items c.in_ok-found.found c.hash-hash.result c.hash-known.result c.number_if.result c.number_if-in-Some.result
+    c.in-Some-first.ensures.value c.in-Some.ensures.value c.hash-hash.ensures c.hash-known.ensures (omega (arith, c.if-hash-theta.false)) c.number_if.ensures.value c.number_if-in-Some.ensures.value c.in_ok-found.ensures.combined c.loop-incoming.invariant.so_far in
     record {
       so_far = rw (behind left c.number_if.result, behind right c.number_if-in-Some.result, c.in_ok-push_found.ensures) on;
-      some = rw c.in_ok-push_found.ensures (omega (arith, more, c.tick.ensures, c.share_each.invariant.some));
-      few = counted_few left right c.share_each.compared c.tick.new.self c.hash-known.result c.hash-hash.result c.number_if.result c.number_if-in-Some.result c.tick.ensures (some_first left c.in-Some-first.existing.now c.in-Some-first.ensures.value) (some_first right c.in-Some.incoming.now c.in-Some.ensures.value) c.number_if.ensures.value c.number_if-in-Some.ensures.value c.number_if.ensures.small c.number_if-in-Some.ensures.small _ c.share_each.invariant.few;
+      some = rw c.in_ok-push_found.ensures (omega (arith, more, c.tick.ensures, c.loop-incoming.invariant.some));
+      few = counted_few left right c.loop-incoming.compared c.tick.new.self c.hash-known.result c.hash-hash.result c.number_if.result c.number_if-in-Some.result c.tick.ensures (some_first left c.in-Some-first.existing.now c.in-Some-first.ensures.value) (some_first right c.in-Some.incoming.now c.in-Some.ensures.value) c.number_if.ensures.value c.number_if-in-Some.ensures.value c.number_if.ensures.small c.number_if-in-Some.ensures.small _ c.loop-incoming.invariant.few;
     }
 
 pub returns-clause-all : goal.returns-clause-all
 returns-clause-all g c =
-    let right = c.share_each.arriving_left.now in
+    let right = c.loop-incoming.arriving_left.now in
     let key = g.E.SketchEntry.key in
     let merges = g.P.IntersectionMergePolicy.merges c.args.policy.now in
     let refuses = g.P.IntersectionMergePolicy.refuses c.args.policy.now in
     let keeps = g.met.P.IntersectionMergePolicy.keeps_hash c.args.policy.now in
-    let left = c.share_each.left.now in
-    shared_end key merges refuses keeps c.args.content.now left c.args.arriving.now right c.args.theta c.share_each.entries.items c.share_each.invariant.so_far
+    let left = c.loop-incoming.left.now in
+    shared_end key merges refuses keeps c.args.content.now left c.args.arriving.now right c.args.theta c.loop-incoming.entries.items c.loop-incoming.invariant.so_far
     (elim c.match-first.branch [
       | in_default w ↦ end_arriving key merges refuses keeps left right c.args.theta (no_first (λ r. r.now) c.first.result right w.in_default.not-Some c.first.ensures.value)
       | in-Some+in_default-first w ↦ end_retained key merges refuses keeps left right c.args.theta (no_first (λ r. r.now) w.first-in-Some.result left w.in_default-first.not-Some w.first-in-Some.ensures.value)
-      | in-Some+in-Some-first+then-hash-theta w ↦ end_past key merges refuses keeps c.args.arriving.now left right w.in-Some.incoming.now c.args.theta w.in-Some.ensures.value c.share_each.invariant.so_far.incoming (rw (← w.hash-hash.ensures) (omega (arith, w.if-hash-theta.true)))
+      | in-Some+in-Some-first+then-hash-theta w ↦ end_past key merges refuses keeps c.args.arriving.now left right w.in-Some.incoming.now c.args.theta w.in-Some.ensures.value c.loop-incoming.invariant.so_far.incoming (rw (← w.hash-hash.ensures) (omega (arith, w.if-hash-theta.true)))
     ])

@@ -3,8 +3,8 @@ use Rattle.core_operators.proofs.SharedEntries.{IsSharing}
 use Rattle.core_operators.proofs.share.shared_in_pass.Given as goal
 
 -- the entries found so far, and how far both lists are read; each comparison skips an entry of at least one list
-abbrev pub invariant-share_each : goal.invariant-share_each
-invariant-share_each g l =
+abbrev pub invariant-loop-incoming : goal.invariant-loop-incoming
+invariant-loop-incoming g l =
     let key = g.E.SketchEntry.key in
     let merges = g.P.IntersectionMergePolicy.merges l.policy in
     let refuses = g.P.IntersectionMergePolicy.refuses l.policy in
@@ -15,5 +15,5 @@ invariant-share_each g l =
     }
 
 -- each comparison skips the first of at least one list
-abbrev pub decreases-share_each : goal.decreases-share_each
-decreases-share_each g l = length l.left + length l.arriving_left
+abbrev pub decreases-loop-incoming : goal.decreases-loop-incoming
+decreases-loop-incoming g l = length l.left + length l.arriving_left

@@ -4,8 +4,8 @@ use Rattle.core_slots.specs.SlotLayout.{filled}
 use Rattle.core_slots.proofs.gathering.gather_below.Given as goal
 
 -- the slots so far are free, the others are unchanged, and the entries below theta were moved
-abbrev pub invariant-take_each : goal.invariant-take_each
-invariant-take_each g l =
+abbrev pub invariant-loop-at : goal.invariant-loop-at
+invariant-loop-at g l =
     let key = g.E.SketchEntry.key in
     let content = g.E.PathEntry.content in
     record {

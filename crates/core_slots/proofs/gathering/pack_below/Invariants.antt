@@ -4,8 +4,8 @@ use Rattle.core_slots.specs.SlotLayout.{filled}
 use Rattle.core_slots.proofs.gathering.pack_below.Given as goal
 
 -- the entries below theta of the slots so far are packed, and the other slots are unchanged
-abbrev pub invariant-pack_each : goal.invariant-pack_each
-invariant-pack_each g l =
+abbrev pub invariant-loop-at : goal.invariant-loop-at
+invariant-loop-at g l =
     let key = g.E.SketchEntry.key in
     let content = g.E.PathEntry.content in
     record {

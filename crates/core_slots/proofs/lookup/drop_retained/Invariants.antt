@@ -4,5 +4,5 @@ use Rattle.core_slots.proofs.Lookups.{IsLeft}
 use Rattle.core_slots.proofs.lookup.drop_retained.Given as goal
 
 -- the remaining hashes so far
-abbrev pub invariant-round : goal.invariant-round
-invariant-round g l = IsLeft g.E.SketchEntry.key (filled (map g.E.PathEntry.content l.slots)) l.theta l.fn.hashes l.hashes l.left
+abbrev pub invariant-loop-step : goal.invariant-loop-step
+invariant-loop-step g l = IsLeft g.E.SketchEntry.key (filled (map g.E.PathEntry.content l.slots)) l.theta l.fn.hashes l.hashes l.left

@@ -5,8 +5,8 @@ use Rattle.core_slots.proofs.SharedPaths.{ArePassed}
 use Rattle.core_slots.proofs.paths.put_along_paths.Given as goal
 
 -- some entries are put, the others wait, and the first slots on the path of the last one put are taken
-abbrev pub invariant-put_each : goal.invariant-put_each
-invariant-put_each g l =
+abbrev pub invariant-loop-entry : goal.invariant-loop-entry
+invariant-loop-entry g l =
     let key = g.E.SketchEntry.key in
     let content = g.E.PathEntry.content in
     let begun = filled (map content l.fn.slots) in
@@ -15,5 +15,5 @@ invariant-put_each g l =
     × ArePassed l.lg (map content l.slots) l.last l.taken × (l.taken ≤ 2 ^ l.lg)
 
 -- the waiting slots
-abbrev pub decreases-put_each : goal.decreases-put_each
-decreases-put_each g l = length l.left.items
+abbrev pub decreases-loop-entry : goal.decreases-loop-entry
+decreases-loop-entry g l = length l.left.items

@@ -9,8 +9,8 @@ use Rattle.core_slots.proofs.HashCounts.{apart_once}
 use Rattle.core_slots.proofs.Settled.{all_wait, rest_part, part_settled, part_done, settled_map, looks_part}
 use Rattle.core_slots.proofs.rounds.settle_all.Goals as goal
 
-pub parts-init : goal.parts-init
-parts-init g c =
+pub loop-lg-init : goal.loop-lg-init
+loop-lg-init g c =
     let key = g.E.SketchEntry.key in
     let content = g.E.PathEntry.content in
     let left = filled (map content c.args.left.now.items) in
@@ -21,21 +21,21 @@ pub returns-then-count-eq0-clause-map : goal.returns-then-count-eq0-clause-map
 returns-then-count-eq0-clause-map g c =
     let key = g.E.SketchEntry.key in
     let content = g.E.PathEntry.content in
-    let i = c.parts.invariant in
+    let i = c.loop-lg.invariant in
     let whole = filled (map content c.args.left.now.items) in
-    let slots = map content c.parts.slots in
-    let none : c.parts.left.items ≡ [] = nil_from_length c.parts.left.items (omega (arith, c.len-count.ensures, c.if-count-eq0.true)) in
+    let slots = map content c.loop-lg.slots in
+    let none : c.loop-lg.left.items ≡ [] = nil_from_length c.loop-lg.left.items (omega (arith, c.len-count.ensures, c.if-count-eq0.true)) in
     let is : IsInRound key c.args.lg whole [] [] slots 0 0 i.0 0 = subst (λ xs. IsInRound key c.args.lg whole [] (filled (map content xs)) slots 0 0 i.0 0) none i.4 in
     settled_map key c.args.lg whole slots 0 0 i.0 0 is
 
 pub returns-then-count-eq0-clause-looked : goal.returns-then-count-eq0-clause-looked
-returns-then-count-eq0-clause-looked g c = omega (arith, c.parts.invariant.1, c.parts.invariant.2)
+returns-then-count-eq0-clause-looked g c = omega (arith, c.loop-lg.invariant.1, c.loop-lg.invariant.2)
 
 pub settle-rounds-requires-clause-once : goal.settle-rounds-requires-clause-once
 settle-rounds-requires-clause-once g c =
     let key = g.E.SketchEntry.key in
     let content = g.E.PathEntry.content in
-    let i = c.parts.invariant in
+    let i = c.loop-lg.invariant in
     let now = c.deref_mut.result.now in
     let from : ℕ = c.saturating_sub-from.result in
     let front = filled (map content (take from now)) in
@@ -44,7 +44,7 @@ settle-rounds-requires-clause-once g c =
 
 pub settle-rounds-requires-clause-room : goal.settle-rounds-requires-clause-room
 settle-rounds-requires-clause-room g c =
-    let is = c.parts.invariant.4 in
+    let is = c.loop-lg.invariant.4 in
     let content = g.E.PathEntry.content in
     let now = c.deref_mut.result.now in
     let from : ℕ = c.saturating_sub-from.result in
@@ -56,38 +56,38 @@ pub put_along_paths-requires-clause-once : goal.put_along_paths-requires-clause-
 put_along_paths-requires-clause-once g c =
     let key = g.E.SketchEntry.key in
     let content = g.E.PathEntry.content in
-    let i = c.parts.invariant in
+    let i = c.loop-lg.invariant in
     let whole = filled (map content c.args.left.now.items) in
     let now = c.deref_mut.result.now in
     let from : ℕ = c.saturating_sub-from.result in
     let settled = c.settle-rounds.ensures in
-    let is = part_done content key c.args.lg whole c.parts.left.items now _ _ c.truncate.new.self.items from c.parts.left.len (map content c.parts.slots) (map content c.settle-rounds.new.slots) i.0 c.deref_mut.ensures.value c.truncate.ensures.items (omega (arith, c.saturating_sub-from.ensures, c.len-count.ensures, ap length c.deref_mut.ensures.value)) (omega (arith, c.saturating_sub-from.ensures, c.len-count.ensures, c.deref_mut.ensures.len)) i.4 settled.laid_out settled.found settled.all settled.count in
+    let is = part_done content key c.args.lg whole c.loop-lg.left.items now _ _ c.truncate.new.self.items from c.loop-lg.left.len (map content c.loop-lg.slots) (map content c.settle-rounds.new.slots) i.0 c.deref_mut.ensures.value c.truncate.ensures.items (omega (arith, c.saturating_sub-from.ensures, c.len-count.ensures, ap length c.deref_mut.ensures.value)) (omega (arith, c.saturating_sub-from.ensures, c.len-count.ensures, c.deref_mut.ensures.len)) i.4 settled.laid_out settled.found settled.all settled.count in
     λ q. omega (arith, is.all q, is.once q)
 
 pub put_along_paths-requires-clause-room : goal.put_along_paths-requires-clause-room
 put_along_paths-requires-clause-room g c =
     let key = g.E.SketchEntry.key in
     let content = g.E.PathEntry.content in
-    let i = c.parts.invariant in
+    let i = c.loop-lg.invariant in
     let whole = filled (map content c.args.left.now.items) in
     let now = c.deref_mut.result.now in
     let from : ℕ = c.saturating_sub-from.result in
     let settled = c.settle-rounds.ensures in
-    let is = part_done content key c.args.lg whole c.parts.left.items now _ _ c.truncate.new.self.items from c.parts.left.len (map content c.parts.slots) (map content c.settle-rounds.new.slots) i.0 c.deref_mut.ensures.value c.truncate.ensures.items (omega (arith, c.saturating_sub-from.ensures, c.len-count.ensures, ap length c.deref_mut.ensures.value)) (omega (arith, c.saturating_sub-from.ensures, c.len-count.ensures, c.deref_mut.ensures.len)) i.4 settled.laid_out settled.found settled.all settled.count in
+    let is = part_done content key c.args.lg whole c.loop-lg.left.items now _ _ c.truncate.new.self.items from c.loop-lg.left.len (map content c.loop-lg.slots) (map content c.settle-rounds.new.slots) i.0 c.deref_mut.ensures.value c.truncate.ensures.items (omega (arith, c.saturating_sub-from.ensures, c.len-count.ensures, ap length c.deref_mut.ensures.value)) (omega (arith, c.saturating_sub-from.ensures, c.len-count.ensures, c.deref_mut.ensures.len)) i.4 settled.laid_out settled.found settled.all settled.count in
     omega (arith, is.counted, c.requires.room)
 
 pub returns-then-rounds-gt-NEAR-clause-map : goal.returns-then-rounds-gt-NEAR-clause-map
 returns-then-rounds-gt-NEAR-clause-map g c =
     let key = g.E.SketchEntry.key in
     let content = g.E.PathEntry.content in
-    let i = c.parts.invariant in
+    let i = c.loop-lg.invariant in
     let whole = filled (map content c.args.left.now.items) in
     let now = c.deref_mut.result.now in
     let from : ℕ = c.saturating_sub-from.result in
     let after = map content c.settle-rounds.new.slots in
     let end = map content c.put_along_paths.new.slots in
     let settled = c.settle-rounds.ensures in
-    let is = part_done content key c.args.lg whole c.parts.left.items now _ _ c.truncate.new.self.items from c.parts.left.len (map content c.parts.slots) (map content c.settle-rounds.new.slots) i.0 c.deref_mut.ensures.value c.truncate.ensures.items (omega (arith, c.saturating_sub-from.ensures, c.len-count.ensures, ap length c.deref_mut.ensures.value)) (omega (arith, c.saturating_sub-from.ensures, c.len-count.ensures, c.deref_mut.ensures.len)) i.4 settled.laid_out settled.found settled.all settled.count in
+    let is = part_done content key c.args.lg whole c.loop-lg.left.items now _ _ c.truncate.new.self.items from c.loop-lg.left.len (map content c.loop-lg.slots) (map content c.settle-rounds.new.slots) i.0 c.deref_mut.ensures.value c.truncate.ensures.items (omega (arith, c.saturating_sub-from.ensures, c.len-count.ensures, ap length c.deref_mut.ensures.value)) (omega (arith, c.saturating_sub-from.ensures, c.len-count.ensures, c.deref_mut.ensures.len)) i.4 settled.laid_out settled.found settled.all settled.count in
     let put = c.put_along_paths.ensures in
     settled_map key c.args.lg whole end 0 0 (length (filled end)) 0 (part_settled key c.args.lg whole [] (filled (map content c.truncate.new.self.items)) after end (length (filled after)) is put.laid_out put.found put.all put.count)
 
@@ -95,29 +95,29 @@ pub returns-then-rounds-gt-NEAR-clause-placed : goal.returns-then-rounds-gt-NEAR
 returns-then-rounds-gt-NEAR-clause-placed g c =
     let key = g.E.SketchEntry.key in
     let content = g.E.PathEntry.content in
-    let i = c.parts.invariant in
+    let i = c.loop-lg.invariant in
     let whole = filled (map content c.args.left.now.items) in
     let now = c.deref_mut.result.now in
     let from : ℕ = c.saturating_sub-from.result in
     let settled = c.settle-rounds.ensures in
-    let is = part_done content key c.args.lg whole c.parts.left.items now _ _ c.truncate.new.self.items from c.parts.left.len (map content c.parts.slots) (map content c.settle-rounds.new.slots) i.0 c.deref_mut.ensures.value c.truncate.ensures.items (omega (arith, c.saturating_sub-from.ensures, c.len-count.ensures, ap length c.deref_mut.ensures.value)) (omega (arith, c.saturating_sub-from.ensures, c.len-count.ensures, c.deref_mut.ensures.len)) i.4 settled.laid_out settled.found settled.all settled.count in
+    let is = part_done content key c.args.lg whole c.loop-lg.left.items now _ _ c.truncate.new.self.items from c.loop-lg.left.len (map content c.loop-lg.slots) (map content c.settle-rounds.new.slots) i.0 c.deref_mut.ensures.value c.truncate.ensures.items (omega (arith, c.saturating_sub-from.ensures, c.len-count.ensures, ap length c.deref_mut.ensures.value)) (omega (arith, c.saturating_sub-from.ensures, c.len-count.ensures, c.deref_mut.ensures.len)) i.4 settled.laid_out settled.found settled.all settled.count in
     omega (arith, i.1, i.4.all_put, is.counted, settled.placed, settled.count, c.put_along_paths.ensures.placed)
 
-pub parts-preserved : goal.parts-preserved
-parts-preserved g c =
+pub loop-lg-preserved : goal.loop-lg-preserved
+loop-lg-preserved g c =
     let key = g.E.SketchEntry.key in
     let content = g.E.PathEntry.content in
-    let i = c.parts.invariant in
+    let i = c.loop-lg.invariant in
     let whole = filled (map content c.args.left.now.items) in
     let now = c.deref_mut.result.now in
     let from : ℕ = c.saturating_sub-from.result in
-    let slots = map content c.parts.slots in
+    let slots = map content c.loop-lg.slots in
     let after = map content c.settle-rounds.new.slots in
     let settled = c.settle-rounds.ensures in
-    let is = part_done content key c.args.lg whole c.parts.left.items now _ _ c.truncate.new.self.items from c.parts.left.len (map content c.parts.slots) (map content c.settle-rounds.new.slots) i.0 c.deref_mut.ensures.value c.truncate.ensures.items (omega (arith, c.saturating_sub-from.ensures, c.len-count.ensures, ap length c.deref_mut.ensures.value)) (omega (arith, c.saturating_sub-from.ensures, c.len-count.ensures, c.deref_mut.ensures.len)) i.4 settled.laid_out settled.found settled.all settled.count in (
+    let is = part_done content key c.args.lg whole c.loop-lg.left.items now _ _ c.truncate.new.self.items from c.loop-lg.left.len (map content c.loop-lg.slots) (map content c.settle-rounds.new.slots) i.0 c.deref_mut.ensures.value c.truncate.ensures.items (omega (arith, c.saturating_sub-from.ensures, c.len-count.ensures, ap length c.deref_mut.ensures.value)) (omega (arith, c.saturating_sub-from.ensures, c.len-count.ensures, c.deref_mut.ensures.len)) i.4 settled.laid_out settled.found settled.all settled.count in (
       length (filled after),
       omega (arith, i.1, i.4.all_put, settled.count, settled.placed),
       omega (arith, i.2, settled.looked, i.4.all_put, settled.count, settled.placed),
-      looks_part c.settle-rounds.new.looks c.parts.looks c.args.looks.now (length (filled after)) (length (filled slots)) i.0 i.4.all_put settled.looks i.3,
+      looks_part c.settle-rounds.new.looks c.loop-lg.looks c.args.looks.now (length (filled after)) (length (filled slots)) i.0 i.4.all_put settled.looks i.3,
       is,
     )

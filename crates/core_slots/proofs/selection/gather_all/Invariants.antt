@@ -3,5 +3,5 @@ use Rattle.core_slots.specs.SlotLayout.{filled}
 use Rattle.core_slots.proofs.selection.gather_all.Given as goal
 
 -- the hashes so far
-abbrev pub invariant-gather_each : goal.invariant-gather_each
-invariant-gather_each g l = l.hashes.items ≡ filled (l.fn.also ∷ []) ++ map g.E.SketchEntry.key (filled (map g.E.PathEntry.content (take l.slot-index l.slots)))
+abbrev pub invariant-loop-slot : goal.invariant-loop-slot
+invariant-loop-slot g l = l.hashes.items ≡ filled (l.fn.also ∷ []) ++ map g.E.SketchEntry.key (filled (map g.E.PathEntry.content (take l.slot-index l.slots)))

@@ -6,26 +6,26 @@ use Rattle.core_slots.proofs.Held.{filled-next}
 use Rattle.core_slots.proofs.Windows.{rank-append, within-append, within_slot, rank_slot, kept_next}
 use Rattle.core_slots.proofs.selection.gather_few.Goals as goal
 
-pub gather_each-preserved : goal.gather_each-preserved
-gather_each-preserved g c =
+pub loop-at-preserved : goal.loop-at-preserved
+loop-at-preserved g c =
     let key = g.E.SketchEntry.key in
     let content = g.E.PathEntry.content in
     let slots = c.args.slots.now in
     let low : ℕ = c.args.low in
     let high : ℕ = c.args.high in
-    let at : ℕ = c.gather_each.at in
-    let count : ℕ = c.gather_each.count in
-    let found = c.gather_each.found in
+    let at : ℕ = c.loop-at.at in
+    let count : ℕ = c.loop-at.count in
+    let found = c.loop-at.found in
     let s = c.index-slots-at.result in
     let h : ℕ = c.hash_or_greatest-hash.result in
-    let was = c.gather_each.invariant in
+    let was = c.loop-at.invariant in
     let before = filled (map content (take at slots)) in
     let seen : List ℕ = map key before in
-    let more = filled-next content slots at s c.gather_each-test.true ∙ ap (λ t. before ++ filled (content t ∷ [])) (sym c.index-slots-at.is) in
+    let more = filled-next content slots at s c.loop-at-test.true ∙ ap (λ t. before ++ filled (content t ∷ [])) (sym c.index-slots-at.is) in
     let one : List ℕ = map key (filled (content s ∷ [])) in
     let is : map key (filled (map content (take (at + 1) slots))) ≡ seen ++ one = ap (map key) more ∙ map-append key before (filled (content s ∷ [])) in
     let kept : within low high (h ∷ []) ≡ within low high one = within_slot key low high (content s) h c.hash_or_greatest-hash.ensures c.requires.far in
-    let inside : count < length found = omega (arith, was.limited, was.long, c.requires.room, c.gather_each-test.true) in
+    let inside : count < length found = omega (arith, was.limited, was.long, c.requires.room, c.loop-at-test.true) in
     record {
       long = length-set found count h ∙ was.long;
       limited = omega (arith, was.limited, c.number_within-count.ensures.small);

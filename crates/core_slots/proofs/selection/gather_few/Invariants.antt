@@ -6,8 +6,8 @@ use Rattle.core_slots.specs.Rank.{within}
 use Rattle.core_slots.proofs.selection.gather_few.Given as goal
 
 -- of the hashes so far: those of the window, and how many are less
-abbrev pub invariant-gather_each : goal.invariant-gather_each
-invariant-gather_each g l =
+abbrev pub invariant-loop-at : goal.invariant-loop-at
+invariant-loop-at g l =
     let seen = map g.E.SketchEntry.key (filled (map g.E.PathEntry.content (take l.at l.slots))) in
     record {
       long : length l.found ≡ length l.initial.found;

@@ -12,7 +12,7 @@ overflow_add-less g c =
     let key = g.E.SketchEntry.key in
     let content = g.E.PathEntry.content in
     let low : ℕ = c.args.low in
-    let left = c.gather_blocks.left.now in
+    let left = c.loop-left.left.now in
     let n : ℕ = c.min.result in
     let first : List ℕ = filled (c.args.also ∷ []) in
     let all : List ℕ = map key (filled (map content c.args.slots.now)) in
@@ -20,34 +20,34 @@ overflow_add-less g c =
     let behind : List ℕ = map key (filled (map content (drop n left))) in
     let parts = ap (λ xs. rank hash_key xs low) (hashes_parts key content left n) ∙ rank-append block behind low in
     let smaller : c.gather_few-kept.result.1 ≡ rank hash_key block low = rw c.split_at.ensures.front at c.gather_few-kept.ensures.below in
-    let most : c.gather_blocks.less + c.gather_few-kept.result.1 < 2 ^ 64 = omega (arith, parts, smaller, c.gather_blocks.invariant.counted, rank_few all low, length-append first all, c.requires.fits) in
+    let most : c.loop-left.less + c.gather_few-kept.result.1 < 2 ^ 64 = omega (arith, parts, smaller, c.loop-left.invariant.counted, rank_few all low, length-append first all, c.requires.fits) in
     search (rules, most)
 
-pub gather_blocks-preserved : goal.gather_blocks-preserved
-gather_blocks-preserved g c =
+pub loop-left-preserved : goal.loop-left-preserved
+loop-left-preserved g c =
     let key = g.E.SketchEntry.key in
     let content = g.E.PathEntry.content in
     let low : ℕ = c.args.low in
     let high : ℕ = c.args.high in
-    let was = c.gather_blocks.invariant in
+    let was = c.loop-left.invariant in
     let n : ℕ = c.min.result in
-    let left = c.gather_blocks.left.now in
-    let items = c.gather_blocks.hashes.items in
+    let left = c.loop-left.left.now in
+    let items = c.loop-left.hashes.items in
     let block : List ℕ = map key (filled (map content (take n left))) in
     let behind : List ℕ = map key (filled (map content (drop n left))) in
-    let count : ℕ = c.gather_blocks.count in
+    let count : ℕ = c.loop-left.count in
     let kept : ℕ = c.gather_few-kept.result.0 in
     let found = c.gather_few-kept.new.found in
     let now = c.deref_mut.result.now in
     let long = c.in_ok-lengthen-2.ensures.long in
     let inside : count ≤ length now = omega (arith, long, ap length c.deref_mut.ensures.value) in
     let limited : kept ≤ length found = omega (arith, c.gather_few-kept.ensures.limited, c.gather_few-kept.ensures.size, long, inside, length-drop count now, ap length c.deref_mut.ensures.value) in
-    let room : count + kept ≤ c.lengthen-in-gather_blocks.new.list.len = omega (arith, c.gather_few-kept.ensures.limited, long, c.deref_mut.ensures.len, ap length c.deref_mut.ensures.value) in
+    let room : count + kept ≤ c.lengthen-in-loop-left.new.list.len = omega (arith, c.gather_few-kept.ensures.limited, long, c.deref_mut.ensures.len, ap length c.deref_mut.ensures.value) in
     let parts : map key (filled (map content left)) ≡ block ++ behind = hashes_parts key content left n in
     let smaller : c.gather_few-kept.result.1 ≡ rank hash_key block low = rw c.split_at.ensures.front at c.gather_few-kept.ensures.below in
     let came : take kept found ≡ within low high block = rw c.split_at.ensures.front at c.gather_few-kept.ensures.gathered in
     let stood : take count now ≡ take count items =
-    ap (take count) c.deref_mut.ensures.value ∙ sym (take-take count (length items) c.lengthen-in-gather_blocks.new.list.items was.short) ∙ ap (take count) c.in_ok-lengthen-2.ensures.front in
+    ap (take count) c.deref_mut.ensures.value ∙ sym (take-take count (length items) c.lengthen-in-loop-left.new.list.items was.short) ∙ ap (take count) c.in_ok-lengthen-2.ensures.front in
     record {
       short = part_long now found _ _ count kept _ inside limited room;
       gathered = rw c.split_at.ensures.back

@@ -6,8 +6,8 @@ use Rattle.core_slots.specs.Rank.{within}
 use Rattle.core_slots.proofs.selection.gather_window.Given as goal
 
 -- the gathered hashes, and those of the remaining slots, are all
-abbrev pub invariant-gather_blocks : goal.invariant-gather_blocks
-invariant-gather_blocks g l =
+abbrev pub invariant-loop-left : goal.invariant-loop-left
+invariant-loop-left g l =
     let behind = map g.E.SketchEntry.key (filled (map g.E.PathEntry.content l.left)) in
     let all = map g.E.SketchEntry.key (filled (map g.E.PathEntry.content l.slots)) in
     record {
@@ -17,5 +17,5 @@ invariant-gather_blocks g l =
     }
 
 -- the remaining slots
-abbrev pub decreases-gather_blocks : goal.decreases-gather_blocks
-decreases-gather_blocks g l = length l.left
+abbrev pub decreases-loop-left : goal.decreases-loop-left
+decreases-loop-left g l = length l.left

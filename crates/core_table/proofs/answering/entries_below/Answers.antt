@@ -6,5 +6,5 @@ use Rattle.core_table.proofs.answering.entries_below.Goals as goal
 pub returns : goal.returns
 returns g c =
     let none : c.first_in.result.0 ≡ None = search rules in
-    let reported = ap (λ xs. c.clone_each.clones.items ++ xs) (sym (c.first_in.ensures.none none)) ∙ c.clone_each.invariant.reported in
-    record { listed = sym (append-nil c.clone_each.clones.items) ∙ reported ∙ filled-under g.E.SketchEntry.key g.E.PathEntry.content c.args.theta c.args.slots.now }
+    let reported = ap (λ xs. c.loop-entry.clones.items ++ xs) (sym (c.first_in.ensures.none none)) ∙ c.loop-entry.invariant.reported in
+    record { listed = sym (append-nil c.loop-entry.clones.items) ∙ reported ∙ filled-under g.E.SketchEntry.key g.E.PathEntry.content c.args.theta c.args.slots.now }

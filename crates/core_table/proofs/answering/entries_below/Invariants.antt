@@ -4,8 +4,8 @@ use Rattle.core_table.specs.Marks.{AreMarked, under}
 use Rattle.core_table.proofs.answering.entries_below.Given as goal
 
 -- the clones so far, and the remaining entries below theta, are all
-abbrev pub invariant-clone_each : goal.invariant-clone_each
-invariant-clone_each g l =
+abbrev pub invariant-loop-entry : goal.invariant-loop-entry
+invariant-loop-entry g l =
     let low = under g.E.SketchEntry.key (Some l.theta) g.E.PathEntry.content in
     record {
       marked : AreMarked (map low l.left.slots.now) l.left.ahead l.left.marks;
@@ -13,5 +13,5 @@ invariant-clone_each g l =
     }
 
 -- the remaining entries below theta
-abbrev pub decreases-clone_each : goal.decreases-clone_each
-decreases-clone_each g l = length (filled (map (under g.E.SketchEntry.key (Some l.theta) g.E.PathEntry.content) l.left.slots.now))
+abbrev pub decreases-loop-entry : goal.decreases-loop-entry
+decreases-loop-entry g l = length (filled (map (under g.E.SketchEntry.key (Some l.theta) g.E.PathEntry.content) l.left.slots.now))

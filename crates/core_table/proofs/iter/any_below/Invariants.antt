@@ -4,5 +4,5 @@ use Rattle.core_table.proofs.ListedBelow.{NoneBelow}
 use Rattle.core_table.proofs.iter.any_below.Given as goal
 
 -- if none was found, none so far holds an entry below theta
-abbrev pub invariant-test_each : goal.invariant-test_each
-invariant-test_each g l = l.any ≡ false → NoneBelow g.E.SketchEntry.key l.theta (filled (map g.E.PathEntry.content (take l.slot-index l.block)))
+abbrev pub invariant-loop-slot : goal.invariant-loop-slot
+invariant-loop-slot g l = l.any ≡ false → NoneBelow g.E.SketchEntry.key l.theta (filled (map g.E.PathEntry.content (take l.slot-index l.block)))

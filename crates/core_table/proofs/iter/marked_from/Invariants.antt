@@ -4,9 +4,9 @@ use Rattle.core_table.specs.Marks.{under}
 use Rattle.core_table.proofs.iter.marked_from.Given as goal
 
 -- the passed slots have no entries under the bound
-abbrev pub invariant-pass_blocks : goal.invariant-pass_blocks
-invariant-pass_blocks g l = filled (map (under g.E.SketchEntry.key l.bound g.E.PathEntry.content) l.left) ≡ filled (map (under g.E.SketchEntry.key l.bound g.E.PathEntry.content) l.slots)
+abbrev pub invariant-loop-bound : goal.invariant-loop-bound
+invariant-loop-bound g l = filled (map (under g.E.SketchEntry.key l.bound g.E.PathEntry.content) l.left) ≡ filled (map (under g.E.SketchEntry.key l.bound g.E.PathEntry.content) l.slots)
 
 -- the remaining slots
-abbrev pub decreases-pass_blocks : goal.decreases-pass_blocks
-decreases-pass_blocks g l = length l.left
+abbrev pub decreases-loop-bound : goal.decreases-loop-bound
+decreases-loop-bound g l = length l.left

@@ -5,14 +5,14 @@ use Rattle.core_table.proofs.iter.marks_of.Goals as goal
 
 pub overflow_mul-marks : goal.overflow_mul-marks
 overflow_mul-marks g c =
-    omega (arith, marks_fit (under g.E.SketchEntry.key c.args.bound g.E.PathEntry.content) c.args.slots.now c.mark_each.i c.mark_each.marks c.mark_each-test.true c.requires c.mark_each.invariant.reported)
+    omega (arith, marks_fit (under g.E.SketchEntry.key c.args.bound g.E.PathEntry.content) c.args.slots.now c.loop-i.i c.loop-i.marks c.loop-i-test.true c.requires c.loop-i.invariant.reported)
 
 pub overflow_add-marks : goal.overflow_add-marks
 overflow_add-marks g c =
-    omega (arith, one_at_most (under g.E.SketchEntry.key c.args.bound g.E.PathEntry.content c.index-slots-slots.result), c.mark_of.ensures, marks_fit (under g.E.SketchEntry.key c.args.bound g.E.PathEntry.content) c.args.slots.now c.mark_each.i c.mark_each.marks c.mark_each-test.true c.requires c.mark_each.invariant.reported)
+    omega (arith, one_at_most (under g.E.SketchEntry.key c.args.bound g.E.PathEntry.content c.index-slots-slots.result), c.mark_of.ensures, marks_fit (under g.E.SketchEntry.key c.args.bound g.E.PathEntry.content) c.args.slots.now c.loop-i.i c.loop-i.marks c.loop-i-test.true c.requires c.loop-i.invariant.reported)
 
-pub mark_each-preserved : goal.mark_each-preserved
-mark_each-preserved g c = record {
+pub loop-i-preserved : goal.loop-i-preserved
+loop-i-preserved g c = record {
   within = omega arith;
-  reported = mark_more (under g.E.SketchEntry.key c.args.bound g.E.PathEntry.content) c.args.slots.now c.mark_each.i c.mark_each.marks c.mark_of.result c.index-slots-slots.result c.mark_each-test.true c.index-slots-slots.is c.mark_of.ensures c.mark_each.invariant.reported;
+  reported = mark_more (under g.E.SketchEntry.key c.args.bound g.E.PathEntry.content) c.args.slots.now c.loop-i.i c.loop-i.marks c.mark_of.result c.index-slots-slots.result c.loop-i-test.true c.index-slots-slots.is c.mark_of.ensures c.loop-i.invariant.reported;
 }

@@ -27,7 +27,8 @@ loop-preserved g c =
     let seed = c.args.seed in
     let lg_k = c.args.lg_k in
     let was = c.loop.groups.map in
-    let now = c.add_lines.new.groups.map in record {
+    let now = c.add_lines.new.groups.map in
+    rw (c.end_source.ensures.map) (record {
       added =
           continues_next g.S.Source.Read.remaining (λ taken. AreAdded seed lg_k [] (lines_of_all taken) was) (λ taken. AreAdded seed lg_k [] (lines_of_all taken) now)
           (g.S.Sources.texts c.args.sources.now) (g.S.Sources.texts c.loop.sources) (g.S.Sources.texts c.next_source.new.self) c.in-Ok-Some.field-0 c.in-Ok-Some.source c.loop.invariant.added c.in-Ok-Some.ensures c.in-Ok-Some.field-0-is
@@ -36,7 +37,7 @@ loop-preserved g c =
           (λ text more. added_more seed lg_k done text was now holds more)
           (c.in_ok-add_lines-in-Ok-Some.ensures.lines (lines_of_all done) holds.uniting));
       ready = c.in_ok-add_lines-in-Ok-Some.ensures.ready;
-    }
+    })
 
 pub returns-in-Ok-None-clause-united : goal.returns-in-Ok-None-clause-united
 returns-in-Ok-None-clause-united g c =

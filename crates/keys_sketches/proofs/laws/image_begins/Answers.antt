@@ -1,5 +1,5 @@
-use Rattle.keys_sketches.proofs.Preambles.{read_facts}
+use Rattle.theta_sketches.proofs.ImageLayouts.{told}
 use Rattle.keys_sketches.proofs.laws.image_begins.Goals as goal
 
 pub returns : goal.returns
-returns c = λ bytes h s reads. (read_facts bytes h s reads).begins
+returns c = λ bytes h s reads. let it = told bytes h s reads in (it.head.length, it.begins)

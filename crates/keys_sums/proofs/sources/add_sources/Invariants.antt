@@ -9,6 +9,6 @@ abbrev pub invariant-loop : goal.invariant-loop
 invariant-loop g l = record {
   parted : Continues (g.S.Sources.texts l.fn.sources) (g.S.Sources.texts l.sources) (λ taken. Unit {0});
   added :
-      (lg_k : ℕ) → HasAdded l.hashing l.amount lg_k [] l.fn.sketch.state
-      → Continues (g.S.Sources.texts l.fn.sources) (g.S.Sources.texts l.sources) (λ taken. HasAdded l.hashing l.amount lg_k (lines_of_all taken) l.sketch.state);
+      (lg_k : ℕ) → HasAdded l.hashing l.amount lg_k [] l.fn.summation
+      → Continues (g.S.Sources.texts l.fn.sources) (g.S.Sources.texts l.sources) (λ taken. HasAdded l.hashing l.amount lg_k (lines_of_all taken) l.summation);
 }

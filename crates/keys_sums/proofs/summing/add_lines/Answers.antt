@@ -11,7 +11,7 @@ use Rattle.keys_sums.proofs.summing.add_lines.Goals.{in-Ok+in_ok-count-in-Ok, in
 use Rattle.keys_sums.proofs.summing.add_lines.Goals as goal
 
 pub loop-init : goal.loop-init
-loop-init g c = ([], Consumes-nil (g.R.Read.remaining c.args.reader.now), taken_nothing c.args.hashing c.args.amount [] c.args.sketch.now.state c.new-last.result 0 (c.new-last.ensures c.args.amount))
+loop-init g c = ([], Consumes-nil (g.R.Read.remaining c.args.reader.now), taken_nothing c.args.hashing c.args.amount [] c.args.summation.now c.new-last.result 0 (c.new-last.ensures c.args.amount))
 
 pub returns-in-Ok-eq0-clause-added : goal.returns-in-Ok-eq0-clause-added
 returns-in-Ok-eq0-clause-added g c = λ lg_k lines has.
@@ -22,22 +22,22 @@ returns-in-Ok-eq0-clause-added g c = λ lg_k lines has.
     Consumes-whole (g.R.Read.remaining c.args.reader.now) (g.R.Read.remaining c.read.new.self) all _
     (Consumes-trans (g.R.Read.remaining c.args.reader.now) (g.R.Read.remaining c.loop.reader) (g.R.Read.remaining c.read.new.self) inv.0 (take c.in-Ok-eq0.field-0 c.read.new.buf) inv.1 c.in-Ok-eq0.ensures.bytes.0)
     (c.in-Ok-eq0.ensures.bytes.1 c.in-Ok-eq0.field-0-test (omega arith))
-    (subst (λ bs. HasAdded c.args.hashing c.args.amount lg_k (lines ++ lines_of bs) c.take_last.new.sketch.state) (sym none)
-    (taken_all c.args.hashing c.args.amount lg_k lines inv.0 c.args.sketch.now.state c.loop.sketch.state c.take_last.new.sketch.state c.loop.last 0 c.loop.count taken
+    (subst (λ bs. HasAdded c.args.hashing c.args.amount lg_k (lines ++ lines_of bs) c.take_last.new.summation) (sym none)
+    (taken_all c.args.hashing c.args.amount lg_k lines inv.0 c.args.summation.now c.loop.summation c.take_last.new.summation c.loop.last 0 c.loop.count taken
     (c.in_ok-take_last-in-Ok-eq0.ensures.taken c.args.hashing taken.left taken.is_open lg_k (lines ++ taken.ended) (taken.added lg_k lines has))))
 
 pub loop-preserved : goal.loop-preserved
 loop-preserved g c = let inv = c.loop.invariant in elim c.match-read.branch [
   | in-Ok+in_ok-count-in-Ok w ↦
       let block = take w.in-Ok.length c.read.new.buf in
-      rw (w.last-is, w.sketch-is, w.count-is) (
+      rw (w.last-is, w.summation-is, w.count-is) (
         inv.0 ++ block,
         Consumes-trans (g.R.Read.remaining c.args.reader.now) (g.R.Read.remaining c.loop.reader) (g.R.Read.remaining c.read.new.self) inv.0 block inv.1 w.in-Ok.ensures.bytes.0,
-        taken_both c.args.hashing c.args.amount [] inv.0 block c.args.sketch.now.state c.loop.sketch.state w.take_block.new.sketch.state c.loop.last w.take_block.new.last 0 c.loop.count w.in_ok-count-in-Ok.count inv.2
+        taken_both c.args.hashing c.args.amount [] inv.0 block c.args.summation.now c.loop.summation w.take_block.new.summation c.loop.last w.take_block.new.last 0 c.loop.count w.in_ok-count-in-Ok.count inv.2
             (w.in_ok-count-in-Ok.ensures.taken inv.2.left inv.2.is_open),
       )
   | in-Err+else-ne w ↦
-      rw (w.last-is, w.sketch-is, w.count-is) (
+      rw (w.last-is, w.summation-is, w.count-is) (
         inv.0,
         Consumes-kept (g.R.Read.remaining c.args.reader.now) (g.R.Read.remaining c.loop.reader) (g.R.Read.remaining c.read.new.self) inv.0 inv.1 w.in-Err.ensures.bytes,
         inv.2,
@@ -59,7 +59,7 @@ returns-in_err-take_last-in-Ok-eq0-clause-numbered g c =
     (Consumes-trans known (g.R.Read.remaining c.loop.reader) left inv.0 (take c.in-Ok-eq0.field-0 c.read.new.buf) inv.1 c.in-Ok-eq0.ensures.bytes.0)
     (c.in-Ok-eq0.ensures.bytes.1 c.in-Ok-eq0.field-0-test (omega arith))
     (subst (λ bs. LacksNumberAt amount bs u) (sym none)
-    (lacking_end c.args.hashing amount inv.0 u c.args.sketch.now.state c.loop.sketch.state c.loop.last c.loop.count inv.2 (c.in_err-take_last-in-Ok-eq0.ensures.numbered c.args.hashing inv.2.left inv.2.is_open)))))
+    (lacking_end c.args.hashing amount inv.0 u c.args.summation.now c.loop.summation c.loop.last c.loop.count inv.2 (c.in_err-take_last-in-Ok-eq0.ensures.numbered c.args.hashing inv.2.left inv.2.is_open)))))
 
 pub returns-in_err-count-in-Ok-clause-numbered : goal.returns-in_err-count-in-Ok-clause-numbered
 returns-in_err-count-in-Ok-clause-numbered g c =
@@ -71,7 +71,7 @@ returns-in_err-count-in-Ok-clause-numbered g c =
     let u = c.in_err-count-in-Ok.field-0.0 in
     let p = err_from_is_err_and c.from_residual-in_err-count-in-Ok.result c.from_residual-in_err-count-in-Ok.ensures.1 in
     subst (λ r. IfSome known (λ text. IfErr r (LacksNumberAt amount text))) (sym p.1) (subst (λ v. IfSome known (λ text. LacksNumberAt amount text v)) (sym p.2)
-    (lacking_text c.args.hashing amount known left inv.0 block u c.args.sketch.now.state c.loop.sketch.state c.loop.last c.loop.count inv.2
+    (lacking_text c.args.hashing amount known left inv.0 block u c.args.summation.now c.loop.summation c.loop.last c.loop.count inv.2
     (Consumes-trans known (g.R.Read.remaining c.loop.reader) left inv.0 block inv.1 c.in-Ok.ensures.bytes.0)
     (λ more. c.in_err-count-in-Ok.ensures.numbered inv.2.left more inv.2.is_open)))
 
@@ -91,7 +91,7 @@ returns-in_err-take_last-in-Ok-eq0-clause-past g c = λ lg_k lines has.
     (Consumes-trans known (g.R.Read.remaining c.loop.reader) left inv.0 (take c.in-Ok-eq0.field-0 c.read.new.buf) inv.1 c.in-Ok-eq0.ensures.bytes.0)
     (c.in-Ok-eq0.ensures.bytes.1 c.in-Ok-eq0.field-0-test (omega arith))
     (subst (λ bs. IsPastIn hashing amount (lines ++ lines_of bs) u) (sym none)
-    (past_end hashing amount lines inv.0 u c.args.sketch.now.state c.loop.sketch.state c.loop.last 0 c.loop.count inv.2
+    (past_end hashing amount lines inv.0 u c.args.summation.now c.loop.summation c.loop.last 0 c.loop.count inv.2
     (c.in_err-take_last-in-Ok-eq0.ensures.past hashing inv.2.left inv.2.is_open lg_k (lines ++ inv.2.ended) (inv.2.added lg_k lines has))))))
 
 pub returns-in_err-count-in-Ok-clause-past : goal.returns-in_err-count-in-Ok-clause-past
@@ -105,7 +105,7 @@ returns-in_err-count-in-Ok-clause-past g c = λ lg_k lines has.
     let u = c.in_err-count-in-Ok.field-0.0 in
     let p = err_from_is_err_and c.from_residual-in_err-count-in-Ok.result c.from_residual-in_err-count-in-Ok.ensures.1 in
     subst (λ r. IfSome known (λ text. IfErr r (IsPastIn hashing amount (lines ++ lines_of text)))) (sym p.1) (subst (λ v. IfSome known (λ text. IsPastIn hashing amount (lines ++ lines_of text) v)) (sym p.2)
-    (past_text hashing amount lines known left inv.0 block u c.args.sketch.now.state c.loop.sketch.state c.loop.last 0 c.loop.count inv.2
+    (past_text hashing amount lines known left inv.0 block u c.args.summation.now c.loop.summation c.loop.last 0 c.loop.count inv.2
     (Consumes-trans known (g.R.Read.remaining c.loop.reader) left inv.0 block inv.1 c.in-Ok.ensures.bytes.0)
     (λ more. c.in_err-count-in-Ok.ensures.past inv.2.left more inv.2.is_open lg_k (lines ++ inv.2.ended) (inv.2.added lg_k lines has))))
 

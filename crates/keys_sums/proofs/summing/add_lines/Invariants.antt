@@ -7,4 +7,4 @@ use Rattle.keys_sums.proofs.summing.add_lines.Given as goal
 abbrev pub invariant-loop : goal.invariant-loop
 invariant-loop g l =
     (read : List ℕ) × Consumes (g.R.Read.remaining l.fn.reader) (g.R.Read.remaining l.reader) read
-    × HasTaken l.hashing l.amount [] read l.fn.sketch.state l.sketch.state l.last 0 l.count
+    × HasTaken l.hashing l.amount [] read l.fn.summation l.summation l.last 0 l.count

@@ -8,7 +8,7 @@ use Rattle.keys_sums.proofs.Pieces.{taken_nothing, taken_line, taken_rest, lacki
 use Rattle.keys_sums.proofs.summing.take_block.Goals as goal
 
 pub loop-piece-init : goal.loop-piece-init
-loop-piece-init g c = ([], refl, λ front is. taken_nothing c.args.hashing c.args.amount front c.args.sketch.now.state c.args.last.now c.args.count is)
+loop-piece-init g c = ([], refl, λ front is. taken_nothing c.args.hashing c.args.amount front c.args.summation.now c.args.last.now c.args.count is)
 
 pub loop-piece-preserved : goal.loop-piece-preserved
 loop-piece-preserved g c =
@@ -18,7 +18,7 @@ loop-piece-preserved g c =
       inv.1 ∙ ap (λ bs. inv.0 ++ bs) (c.in-Some.ensures.parts ∙ sym (append_assoc line (10 ∷ []) c.in-Some.others.now)) ∙ sym (append_assoc inv.0 (line ++ 10 ∷ []) c.in-Some.others.now),
       λ front is.
           let was = inv.2 front is in
-          taken_line c.args.hashing c.args.amount front inv.0 line c.args.sketch.now.state c.loop-piece.sketch.state c.add_line.new.sketch.state c.loop-piece.last c.new.result c.args.count c.loop-piece.count c.saturating_add-count.result was c.in-Some.ensures.line
+          taken_line c.args.hashing c.args.amount front inv.0 line c.args.summation.now c.loop-piece.summation c.add_line.new.summation c.loop-piece.last c.new.result c.args.count c.loop-piece.count c.saturating_add-count.result was c.in-Some.ensures.line
           (c.new.ensures c.args.amount) c.saturating_add-count.ensures
           (λ lg_k lines has. c.in_ok-add_line.ensures.added c.args.hashing (was.left ++ line) (c.extend.ensures c.args.hashing was.left was.is_open) lg_k lines has),
     )
@@ -27,8 +27,8 @@ pub returns-clause-taken : goal.returns-clause-taken
 returns-clause-taken g c = λ front is.
     let inv = c.loop-piece.invariant in
     let was = inv.2 front is in
-    subst (λ (bs : List ℕ). HasTaken c.args.hashing c.args.amount front bs c.args.sketch.now.state c.loop-piece.sketch.state c.extend-2.new.self c.args.count c.loop-piece.count) (sym inv.1)
-    (taken_rest c.args.hashing c.args.amount front inv.0 c.loop-piece.rest.now c.args.sketch.now.state c.loop-piece.sketch.state c.loop-piece.last c.extend-2.new.self c.args.count c.loop-piece.count was c.in_default.ensures.none (c.extend-2.ensures c.args.hashing was.left was.is_open))
+    subst (λ (bs : List ℕ). HasTaken c.args.hashing c.args.amount front bs c.args.summation.now c.loop-piece.summation c.extend-2.new.self c.args.count c.loop-piece.count) (sym inv.1)
+    (taken_rest c.args.hashing c.args.amount front inv.0 c.loop-piece.rest.now c.args.summation.now c.loop-piece.summation c.loop-piece.last c.extend-2.new.self c.args.count c.loop-piece.count was c.in_default.ensures.none (c.extend-2.ensures c.args.hashing was.left was.is_open))
 
 pub returns-in_err-add_line-clause-numbered : goal.returns-in_err-add_line-clause-numbered
 returns-in_err-add_line-clause-numbered g c = λ front more is.
@@ -38,7 +38,7 @@ returns-in_err-add_line-clause-numbered g c = λ front more is.
     let line = c.in-Some.piece.now in
     let lines = lines_after front (c.args.block.now ++ more) in
     subst (λ r. IfErr r (LacksNumberIn c.args.amount c.args.count lines)) (sym p.1) (subst (LacksNumberIn c.args.amount c.args.count lines) (sym p.2)
-    (lacking_line c.args.hashing c.args.amount front inv.0 line c.in-Some.others.now more c.args.block.now c.args.count c.loop-piece.count c.in_err-add_line.field-0.0 c.args.sketch.now.state c.loop-piece.sketch.state c.loop-piece.last was
+    (lacking_line c.args.hashing c.args.amount front inv.0 line c.in-Some.others.now more c.args.block.now c.args.count c.loop-piece.count c.in_err-add_line.field-0.0 c.args.summation.now c.loop-piece.summation c.loop-piece.last was
     c.in-Some.ensures.line (inv.1 ∙ ap (λ bs. inv.0 ++ bs) c.in-Some.ensures.parts) (c.in_err-add_line.ensures.number c.args.hashing (was.left ++ line) (c.extend.ensures c.args.hashing was.left was.is_open))))
 
 pub returns-in_err-add_line-clause-past : goal.returns-in_err-add_line-clause-past
@@ -49,7 +49,7 @@ returns-in_err-add_line-clause-past g c = λ front more is lg_k lines has.
     let line = c.in-Some.piece.now in
     let all = lines ++ lines_after front (c.args.block.now ++ more) in
     subst (λ r. IfErr r (IsPastIn c.args.hashing c.args.amount all)) (sym p.1) (subst (IsPastIn c.args.hashing c.args.amount all) (sym p.2)
-    (past_block c.args.hashing c.args.amount lines front inv.0 line c.in-Some.others.now more c.args.block.now c.in_err-add_line.field-0.0 c.args.sketch.now.state c.loop-piece.sketch.state c.loop-piece.last c.args.count c.loop-piece.count was
+    (past_block c.args.hashing c.args.amount lines front inv.0 line c.in-Some.others.now more c.args.block.now c.in_err-add_line.field-0.0 c.args.summation.now c.loop-piece.summation c.loop-piece.last c.args.count c.loop-piece.count was
     c.in-Some.ensures.line (inv.1 ∙ ap (λ bs. inv.0 ++ bs) c.in-Some.ensures.parts)
     (c.in_err-add_line.ensures.past c.args.hashing (was.left ++ line) (c.extend.ensures c.args.hashing was.left was.is_open) lg_k (lines ++ was.ended) (was.added lg_k lines has))))
 

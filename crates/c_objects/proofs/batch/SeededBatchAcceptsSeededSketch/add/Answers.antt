@@ -1,5 +1,6 @@
 use Rattle.std.proofs.Common.{refl, inl, inr}
 use Rattle.c_objects.specs.Streams.{HasSketch}
+use Rattle.c_objects.proofs.Gathered.{one_more, form_more}
 use Rattle.c_objects.proofs.batch.SeededBatchAcceptsSeededSketch.add.Goals.{in-Ok-push, in-Err-push}
 use Rattle.c_objects.proofs.batch.SeededBatchAcceptsSeededSketch.add.Goals as goal
 
@@ -12,6 +13,8 @@ returns-after-push c = elim c.match-push.branch [
         least = c.in-Ok.ensures.least;
         kmin = λ lg_k seed hashes is. c.in-Ok.ensures.kmin lg_k seed hashes is refl;
       } in
-      inl (refl, (record { sketch = c.in-Ok.compact }, (c.in-Ok.ensures.ok, has), (refl, w.in-Ok-push.ensures.items))))
+      let old = c.args.self.now.sketches.items in let items = w.in-Ok-push.ensures.items in
+      let more = one_more old _ c.in-Ok.compact items in
+      inl (refl, (record { sketch = c.in-Ok.compact }, (c.in-Ok.ensures.ok, has), (refl, items, more)), form_more old _ c.in-Ok.compact items c.args.sketch.now.sketch has))
   | in-Err-push w ↦ rw (w.result-is) (inr (refl, (refl, w.in-Err-push.ensures.items)))
 ]

@@ -15,23 +15,23 @@ pub returns-in_err-hash-clause-refused : goal.returns-in_err-hash-clause-refused
 returns-in_err-hash-clause-refused g c =
     let p = err_from_is_err_and c.from_residual-in_err-hash.result c.from_residual-in_err-hash.ensures.1 in
     let value = g.Self.TupleSummaryValue in
-    let inv = c.read_each.invariant in
-    rw (p.1, p.2) (inr (c.in_err-hash.ensures.refused, λ q. none_short value.spells c.read_each.slice c.in_err-hash.ensures.short.limited (next_of (SpellsTuple value.spells) (one_tuple value.spells g.met.Self.TupleSummaryValue.one_spelling) c.args.bytes.now inv.0 c.read_each.slice c.args.count c.read_each._i c.read_each.entries.items inv.1 inv.2 inv.3 c.read_each-test.true q)))
+    let inv = c.loop-i.invariant in
+    rw (p.1, p.2) (inr (c.in_err-hash.ensures.refused, λ q. none_short value.spells c.loop-i.slice c.in_err-hash.ensures.short.limited (next_of (SpellsTuple value.spells) (one_tuple value.spells g.met.Self.TupleSummaryValue.one_spelling) c.args.bytes.now inv.0 c.loop-i.slice c.args.count c.loop-i._i c.loop-i.entries.items inv.1 inv.2 inv.3 c.loop-i-test.true q)))
 
 pub returns-in_err-summary-clause-refused : goal.returns-in_err-summary-clause-refused
 returns-in_err-summary-clause-refused g c =
     let p = err_from_is_err_and c.from_residual-in_err-summary.result c.from_residual-in_err-summary.ensures.1 in
     let value = g.Self.TupleSummaryValue in
-    let inv = c.read_each.invariant in
-    let next = next_of (SpellsTuple value.spells) (one_tuple value.spells g.met.Self.TupleSummaryValue.one_spelling) c.args.bytes.now inv.0 c.read_each.slice c.args.count c.read_each._i c.read_each.entries.items inv.1 inv.2 inv.3 c.read_each-test.true in
-    let behind = summary_behind value.spells c.read_each.slice c.read_u64_le.new.self c.in_ok-hash.hash c.in_ok-hash.ensures.ok in
+    let inv = c.loop-i.invariant in
+    let next = next_of (SpellsTuple value.spells) (one_tuple value.spells g.met.Self.TupleSummaryValue.one_spelling) c.args.bytes.now inv.0 c.loop-i.slice c.args.count c.loop-i._i c.loop-i.entries.items inv.1 inv.2 inv.3 c.loop-i-test.true in
+    let behind = summary_behind value.spells c.loop-i.slice c.read_u64_le.new.self c.in_ok-hash.hash c.in_ok-hash.ensures.ok in
     rw (p.1, p.2) (refused_weaker c.in_err-summary.field-0.0 (λ q. behind (next q)) c.in_err-summary.ensures)
 
-pub read_each-preserved : goal.read_each-preserved
-read_each-preserved g c =
+pub loop-i-preserved : goal.loop-i-preserved
+loop-i-preserved g c =
     let value = g.Self.TupleSummaryValue in
     let spells = SpellsTuple value.spells in
     let one = one_tuple value.spells g.met.Self.TupleSummaryValue.one_spelling in
-    let inv = c.read_each.invariant in
-    let found = entry_read value.spells c.read_each.slice c.read_u64_le.new.self c.deserialize_value.new.slice c.in_ok-hash.hash c.in_ok-summary.summary c.in_ok-hash.ensures.ok c.in_ok-summary.ensures in
-    rw (c.in_ok-push.ensures.items, c.of_hash.ensures) (step spells one c.args.bytes.now inv.0 c.read_each.slice found.0 c.deserialize_value.new.slice c.read_each.entries.items _ c.read_each._i inv.1 inv.2 inv.3 found.1 found.2)
+    let inv = c.loop-i.invariant in
+    let found = entry_read value.spells c.loop-i.slice c.read_u64_le.new.self c.deserialize_value.new.slice c.in_ok-hash.hash c.in_ok-summary.summary c.in_ok-hash.ensures.ok c.in_ok-summary.ensures in
+    rw (c.in_ok-push.ensures.items, c.of_hash.ensures) (step spells one c.args.bytes.now inv.0 c.loop-i.slice found.0 c.deserialize_value.new.slice c.loop-i.entries.items _ c.loop-i._i inv.1 inv.2 inv.3 found.1 found.2)

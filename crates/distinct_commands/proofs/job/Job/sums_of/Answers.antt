@@ -15,7 +15,7 @@ use Rattle.distinct_commands.proofs.job.Job.sums_of.Goals as goal
 
 pub returns-in-Ok-clause-sums : goal.returns-in-Ok-clause-sums
 returns-in-Ok-clause-sums g c =
-    if_some (g.S.Sources.texts c.args.self.inputs.sources) (λ texts. c.in-Ok.sums ≡ sketch_of_sums (record { key = c.key.result; seed = c.args.self.seed }) (added_by c.args.amount) c.args.self.options.now.lg_k (lines_of_all texts)) (λ texts. c.in-Ok.sums ≡ sums_of (options_of c.args.self.options.now) c.args.amount c.args.self.seed texts)
+    if_some (g.S.Sources.texts c.args.self.inputs.sources) (λ texts. c.in-Ok.sums.sketch ≡ sketch_of_sums (record { key = c.key.result; seed = c.args.self.seed }) (added_by c.args.amount) c.args.self.options.now.lg_k (lines_of_all texts)) (λ texts. c.in-Ok.sums.sketch ≡ sums_of (options_of c.args.self.options.now) c.args.amount c.args.self.seed texts)
     (λ texts is. is ∙ ap (λ (k : Key). sketch_of_sums (record { key = k; seed = c.args.self.seed }) (added_by c.args.amount) c.args.self.options.now.lg_k (lines_of_all texts)) c.key.ensures) c.in-Ok.ensures.sketch
 
 pub returns-in-Err-PastGreatest-clause-failed : goal.returns-in-Err-PastGreatest-clause-failed

@@ -1,0 +1,10 @@
+use Rattle.std.proofs.Common.{Option, Some, ap, subst, ◌∙◌}
+use Rattle.c_handles.specs.Calls.{OnObject}
+use Rattle.c_objects.specs.Sums.{AddsAtNumber}
+use Rattle.c_objects.specs.declared.sums.SeededSums.{SeededSums}
+use Rattle.c_library.proofs.sums.kcp_sums_add_u64.Goals as goal
+
+pub returns-in-Some : goal.returns-in-Some
+returns-in-Some c =
+    let same = c.in-Some.ensures.value ∙ ap (λ o. o.value) c.owned.ensures.same in
+    subst (λ (o : Option SeededSums). OnObject (AddsAtNumber c.args.number c.args.value) o c.add_at_number.result (Some c.add_at_number.new.sums)) same c.add_at_number.ensures

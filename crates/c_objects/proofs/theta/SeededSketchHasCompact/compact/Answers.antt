@@ -1,0 +1,6 @@
+use Rattle.c_objects.proofs.Orders.{compact_in}
+use Rattle.c_objects.proofs.theta.SeededSketchHasCompact.compact.Goals as goal
+
+pub returns-in-Ok-clause-made : goal.returns-in-Ok-clause-made
+returns-in-Ok-clause-made c =
+    let e = c.in-Ok.ensures in compact_in c.args.ordered c.args.self.now (record { sketch = c.in-Ok.sketch }) e.ok e.part e.seeded e.least e.kmin

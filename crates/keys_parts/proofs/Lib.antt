@@ -1,0 +1,4 @@
+mod Lines
+mod Scans
+mod Parted
+mod Blocks
