@@ -4,8 +4,8 @@ ghost use Rattle.std.specs.Borrow.{sem, Lends, LendsIf};
 ghost use Rattle.c_handles.specs.Calls.{Fills, IsMadeBy, IsRefusedBy, IsRefusedWith};
 ghost use Rattle.c_handles.specs.contracts.owned.Owned.{the_row};
 
-use crate::loose::Loose;
 use crate::owned::Owned;
+use crate::raw_box::RawBox;
 use c_objects::status::{INVALID_ARGUMENT, OK, OUT_OF_MEMORY, status_of};
 use sketch_base::Error;
 use std::alloc::Global;
@@ -64,7 +64,7 @@ impl<T: Drop> Owned<T> {
         match made {
             Ok(value) => match Box::new(alloc, value) {
                 Ok(boxed) => {
-                    let _ = std::mem::replace(self, Owned::of(Loose::of(boxed))).into_box(alloc);
+                    let _ = std::mem::replace(self, Owned::of(RawBox::of(boxed))).into_box(alloc);
                     OK
                 }
                 Err(_) => OUT_OF_MEMORY,

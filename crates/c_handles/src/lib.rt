@@ -11,10 +11,10 @@
 mod access;
 mod calls;
 pub mod handles;
-mod loose;
 mod opaque;
 pub mod owned;
 mod pointers;
+mod raw_box;
 mod read_pointers;
 pub mod reader;
 pub mod readers;

@@ -3,7 +3,7 @@ ghost use Rattle.std.specs.Prelude.{◌≡◌, Option, Some, None, option_map};
 ghost use Rattle.std.specs.Coded.{coded_option};
 ghost use Rattle.c_handles.specs.Handle.{handle_owns};
 
-use crate::loose::Loose;
+use crate::raw_box::RawBox;
 use std::alloc::Global;
 use std::marker::Model;
 
@@ -31,23 +31,23 @@ impl<T> Owned<T> {
 
     /// The pointer of a box.
     #[inline(always)]
-    pub(crate) fn of(made: Loose<T, Global>) -> Owned<T>
+    pub(crate) fn of(made: RawBox<T, Global>) -> Owned<T>
         ensures { result.value ≡ Some made.value }
     {
-        let Loose { at, alloc: _ } = made;
+        let RawBox { at, alloc: _ } = made;
         Owned { at }
     }
 
     /// The box behind the pointer, if it isn't null.
     #[inline(always)]
-    pub(crate) fn into_loose(self, alloc: Global) -> Option<Loose<T, Global>>
+    pub(crate) fn into_raw_box(self, alloc: Global) -> Option<RawBox<T, Global>>
         ensures { self.value ≡ option_map (λ l. l.value) result }
     {
         let Owned { at } = self;
         if at.is_null() {
             None
         } else {
-            Some(Loose { at, alloc })
+            Some(RawBox { at, alloc })
         }
     }
 }
@@ -58,8 +58,8 @@ impl<T: Drop> Owned<T> {
     pub(crate) fn into_box(self, alloc: Global) -> Option<Box<T>>
         ensures { self.value ≡ option_map (λ b. b.value) result }
     {
-        match self.into_loose(alloc) {
-            Some(loose) => Some(loose.into_box()),
+        match self.into_raw_box(alloc) {
+            Some(raw_box) => Some(raw_box.into_box()),
             None => None,
         }
     }

@@ -185,7 +185,7 @@ impl<
                 let entries = &mut self.entries;
                 let own_theta = &mut self.theta;
                 let policy = &self.policy;
-                let outcome = meet_held(
+                let outcome = intersect_entries(
                     entries,
                     own_theta,
                     sketch,
@@ -231,7 +231,7 @@ impl<
 ///
 /// Refused with `OutOfMemory`, or with `Policy` if the policy refuses the entries of a shared hash below the lesser
 /// theta; then the entries and their theta are unchanged.
-fn meet_held<S: EntrySketch, P: IntersectionMergePolicy<S::Entry>, A: Allocator + Clone>(
+fn intersect_entries<S: EntrySketch, P: IntersectionMergePolicy<S::Entry>, A: Allocator + Clone>(
     entries: &mut Vec<S::Entry, A>,
     own_theta: &mut u64,
     sketch: S,

@@ -2,8 +2,8 @@
 use mir.Syntax.{named}
 use Rattle.std.specs.Prelude.{Bool, [], if◌then◌else◌}
 use Rattle.std.specs.Borrow.{Lends, MutBor, Fml, RattleType}
-use Rattle.core_slots.specs.declared.rounds.TwoPlaces.{TwoPlaces}
-use Rattle.core_slots.specs.contracts.rounds.TwoPlaces.{the_row}
+use Rattle.core_slots.specs.declared.placing.TwoPlaces.{TwoPlaces}
+use Rattle.core_slots.specs.contracts.placing.TwoPlaces.{the_row}
 
 -- once the borrow r ends, one of the places has what was last written through r
 abbrev pub ends_chosen : (T : RattleType) → Bool → MutBor (TwoPlaces T.Denot) → MutBor T.Denot → Fml

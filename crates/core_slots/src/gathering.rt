@@ -7,7 +7,7 @@ ghost use Rattle.core_slots.specs.SlotLayout.{filled, IsLaidOut, entries_in, slo
 ghost use Rattle.core_slots.specs.Placing.{LooksForEach, LooksAtPlaced};
 
 use crate::count::Count;
-use crate::rounds::settle_all;
+use crate::placing::settle_all;
 use crate::slot_entry::SlotEntry;
 use crate::slots::number_below;
 use std::alloc::Allocator;

@@ -13,7 +13,7 @@ ghost use Rattle.core_slots.specs.declared.slots.TheConstants.{NEAR};
 
 use crate::count::Count;
 use crate::gathering::pack_below;
-use crate::rounds::settle_all;
+use crate::placing::settle_all;
 use crate::slot_entry::{PathEntry, SlotEntry};
 use std::alloc::{AllocError, Allocator};
 

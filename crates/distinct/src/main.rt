@@ -9,14 +9,14 @@ ghost use Rattle.distinct_arguments.specs.Faults.{request_action};
 ghost use Rattle.distinct_commands.specs.Operands.{SuitsAction};
 ghost use Rattle.distinct_inputs.specs.Failures.{IsOfDir};
 
+mod console;
 mod hints;
 mod output;
-mod progress;
 #[cfg(test)]
 mod tests;
 
+use crate::console::StderrConsole;
 use crate::hints::Hint;
-use crate::progress::Progress;
 use distinct_arguments::{
     Command, Fault, Front, Options, Request, Seed, check_output, front_of, options_first,
     read_arguments, reads_texts, word_of,
@@ -189,7 +189,7 @@ fn run_folder(
     requires seeded { seed_hash seed ≢ 0 }
 {
     let sources = files_of(rt, Command::Sketch, options, files);
-    let mut console = Progress::new(rt, options.progress, options.quiet);
+    let mut console = StderrConsole::new(rt, options.progress, options.quiet);
     let inputs = Inputs::new(sources, files);
     let made = group_files(rt.alloc(), options, seed, by, inputs, &mut console)?;
     output::put_files(rt, folder, made.as_slice())
@@ -259,7 +259,7 @@ fn run_request(
             (sources, options.progress, options.quiet, options.output)
         }
     };
-    let mut console = Progress::new(rt, progress, quiet);
+    let mut console = StderrConsole::new(rt, progress, quiet);
     let watched = &mut console;
     match output {
         None => {
