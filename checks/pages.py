@@ -117,23 +117,32 @@ def clauses():
     return found
 
 
-def unknown_clauses(part, labels):
+def fields():
+    """The names of the fields of all records of definitions."""
+    paths = (it for crate in indexes.crates() for it in glob.glob(f"crates/{crate}/specs/**/*.antt", recursive=True))
+    return {it for path in paths for it in re.findall(r"^  pub (\w+) :", text_of(path), re.M)}
+
+
+def unknown_clauses(part, labels, known_fields):
     """The clauses of 'F, G clauses A, B' that none of its functions has, with these. In 'F clause A, G clause B' the functions of
-    the second list are behind the clauses of the first."""
-    names, *lists = (re.findall(r"`(?:\w+::)*([\w*]+)`", it) for it in re.split(r"\bclauses?\b", part))
+    the second list are behind the clauses of the first. `A.B` is the field B of the record that clause A is."""
+    names, *lists = (re.findall(r"`(?:\w+::)*([\w*]+(?:\.\w+)*)`", it) for it in re.split(r"\bclauses?\b", part))
     for behind, words in zip(reversed(range(len(lists))), lists):
         known = [labels[it] for name in names for it in fnmatch.filter(labels, name)]
         have = set().union(*known, labels if behind else ())
-        yield from ((it, names) for it in words if known and it not in have)
+        for word in words:
+            clause, *inner = word.split(".")
+            if known and not (clause in have and known_fields.issuperset(inner)):
+                yield word, names
         names = [it for it in words if it in labels]
 
 
 def promises():
     """The clauses that a row of PROMISES names and none of its functions has."""
-    labels = clauses()
+    labels, known_fields = clauses(), fields()
     for row in re.findall(r"^\|.*\| (.*) \|$", text_of(PROMISES), re.M):
         for part in re.sub(r"\([^)]*\)", "", row).split(";"):
-            for word, names in unknown_clauses(part, labels):
+            for word, names in unknown_clauses(part, labels, known_fields):
                 yield f"{PROMISES}: no function of {', '.join(names)} has a clause {word}"
 
 

@@ -1,3 +1,4 @@
 pub mod Parts
 pub mod Refused
 pub mod Answered
+pub mod Answers

@@ -1,29 +1,17 @@
 //! The one sketch that a plan is evaluated to, in each family.
-ghost use Rattle.std.specs.Prelude.{◌≡◌, ◌^◌, ◌++◌, ◌∷◌, ◌⊎◌, [], ℕ, List, map, true, false, Some, None, IfOk};
-ghost use Rattle.std.specs.Prelude.{IfErr, OnOk};
+ghost use Rattle.std.specs.Prelude.{◌≡◌, ◌⊎◌, ℕ, map, true, false, Some, None, IfOk, IfErr, OnOk};
 ghost use Rattle.sketch_base.specs.Seed.{seed_hash};
-ghost use Rattle.sketch_base.specs.declared.error.ErrorKind.TheVariants.{OutOfMemory, Policy};
-ghost use Rattle.core_laws.specs.Cuts.{cut};
-ghost use Rattle.core_laws.specs.Entries.{ClonesEqual, hash_key};
-ghost use Rattle.core_laws.specs.Leaf.{is_updated, added, kmin, whole};
+ghost use Rattle.core_laws.specs.Entries.{ClonesEqual};
 ghost use Rattle.core_laws.specs.Maps.{entry_at};
-ghost use Rattle.core_laws.specs.Refusal.{Refuses};
-ghost use Rattle.core_laws.specs.Samples.{IsAllBelow};
-ghost use Rattle.core_laws.specs.Values.{NonEmpty};
-ghost use Rattle.core_laws.specs.declared.leaf.LeafStep.{LeafStep};
-ghost use Rattle.core_laws.specs.declared.leaf.LeafStep.TheVariants.{Trim};
 ghost use Rattle.core_slots.specs.Entry.{tuple_key};
 ghost use Rattle.core_slots.specs.declared.entry.TupleEntry.{TupleEntry};
-ghost use Rattle.plan_text.specs.declared.plan.Plan.TheVariants as plans;
 ghost use Rattle.plan_values.specs.AddedValues.{added_values, total};
-ghost use Rattle.plan_values.specs.Family.{folds_of, hashes, tuple_folds};
-ghost use Rattle.plan_values.specs.LawfulLeaf.{IsLawfulLeaf};
-ghost use Rattle.plan_values.specs.MergePlan.{only_unites, IsMergePlan};
-ghost use Rattle.plan_values.specs.Refusals.{may_refuse, must_refuse};
-ghost use Rattle.plan_values.specs.Value.{value_in, value_of, plan_refusal};
-ghost use Rattle.plan_values.specs.WholeStreams.{whole_in, whole_hashes};
-ghost use Rattle.core_compact.specs.CompactState.{ordered_sketch};
-ghost use Rattle.plan_evaluation.specs.Answered.{HasKeys, IsOrderedSketchOf};
+ghost use Rattle.plan_values.specs.Family.{folds_of, tuple_folds};
+ghost use Rattle.plan_values.specs.MergePlan.{only_unites};
+ghost use Rattle.plan_values.specs.Refusals.{must_refuse};
+ghost use Rattle.plan_values.specs.Value.{value_in, plan_refusal};
+ghost use Rattle.plan_evaluation.specs.Answered.{IsOrderedSketchOf};
+ghost use Rattle.plan_evaluation.specs.Answers.{IsPlanAnswer, IsThetaPlanAnswer};
 ghost use Rattle.plan_evaluation.specs.Refused.{IsPlanRefused};
 
 use crate::evaluate::{evaluate, into_compact};
@@ -58,17 +46,7 @@ pub fn evaluate_theta<A: Allocator + Clone, B: Allocator>(
     plan: &Plan<(), B>,
     seed: u64,
 ) -> Result<CompactThetaSketch<A>, Error>
-    ensures value { IfOk result (λ s. s ≡ ordered_sketch (value_of plan.now) (seed_hash seed)) }
-    ensures whole { OnOk result (IsAllBelow hash_key (value_of plan.now) (whole_hashes plan.now)) }
-    ensures merged { (lg_k start : ℕ)
-        → IsMergePlan lg_k start plan.now
-        → OnOk result (value_of plan.now ≡ NonEmpty (kmin (2 ^ lg_k) (whole_hashes plan.now) start)) }
-    ensures lawful { OnOk result (IsLawfulLeaf hashes plan.now) }
-    ensures trimmed { (lg_k start : ℕ) (steps : List (LeafStep (Unit {0})))
-        → plan.now ≡ plans.Leaf lg_k start (steps ++ Trim ∷ [])
-        → is_updated steps false ≡ true
-        → OnOk result (value_of plan.now ≡ NonEmpty (kmin (2 ^ lg_k) (added steps) start)) }
-    ensures refused { Refuses result (plan_refusal seed plan.now) true }
+    ensures plan { IsThetaPlanAnswer seed plan.now result }
 {
     ordered_sketch(&ThetaFamily, &alloc, plan, seed)
 }
@@ -108,40 +86,9 @@ pub fn evaluate_tuple<
     combine_policy: Q,
 ) -> Result<CompactTupleSketch<S, A>, Error>
     requires clones_equal { ClonesEqual S.is_clone }
-    ensures value { let f = tuple_folds (P.creates update_policy) (P.updates update_policy)
-        (Q.combines combine_policy) in
-        IfOk result (IsOrderedSketchOf tuple_key (value_in f plan.now) (seed_hash seed)) }
-    ensures whole { let f = tuple_folds (P.creates update_policy) (P.updates update_policy)
-        (Q.combines combine_policy) in
-        OnOk result (IsAllBelow f.key (value_in f plan.now) (whole_in f plan.now)) }
-    ensures merged { (lg_k start : ℕ)
-        → IsMergePlan lg_k start plan.now
-        → let f = tuple_folds (P.creates update_policy) (P.updates update_policy) (Q.combines combine_policy) in
-        OnOk result (value_in f plan.now ≡ NonEmpty (cut f.key (2 ^ lg_k) (whole_in f plan.now) start)) }
-    ensures kmin { (lg_k start : ℕ)
-        → IsMergePlan lg_k start plan.now
-        → IfOk result (HasKeys tuple_key (kmin (2 ^ lg_k) (whole_hashes plan.now) start)) }
-    ensures lawful { let f = tuple_folds (P.creates update_policy) (P.updates update_policy)
-        (Q.combines combine_policy) in
-        OnOk result (IsLawfulLeaf f plan.now) }
-    ensures trimmed { (lg_k start : ℕ) (steps : List (LeafStep U))
-        → plan.now ≡ plans.Leaf lg_k start (steps ++ Trim ∷ [])
-        → is_updated steps false ≡ true
-        → let f = tuple_folds (P.creates update_policy) (P.updates update_policy) (Q.combines combine_policy) in
-        OnOk result (value_in f plan.now ≡ NonEmpty (cut f.key (2 ^ lg_k) (whole f.key f.step_of steps) start)) }
-    ensures trimmed_kmin { (lg_k start : ℕ) (steps : List (LeafStep U))
-        → plan.now ≡ plans.Leaf lg_k start (steps ++ Trim ∷ [])
-        → is_updated steps false ≡ true
-        → IfOk result (HasKeys tuple_key (kmin (2 ^ lg_k) (added steps) start)) }
-    ensures accepted { OnOk result (plan_refusal seed plan.now ≡ None) }
-    ensures unrefused { let f = tuple_folds (P.creates update_policy) (P.updates update_policy)
-        (Q.combines combine_policy) in
-        OnOk result (must_refuse f seed plan.now ≡ false) }
-    ensures refused { let f = tuple_folds (P.creates update_policy) (P.updates update_policy)
-        (Q.combines combine_policy) in
-        IfErr result (λ e.
-        ((plan_refusal seed plan.now ≡ Some e) × (must_refuse f seed plan.now ≡ false))
-        ⊎ ((e ≡ OutOfMemory) ⊎ ((e ≡ Policy) × (may_refuse f seed plan.now ≡ true)))) }
+    ensures plan { IsPlanAnswer
+        (tuple_folds (P.creates update_policy) (P.updates update_policy) (Q.combines combine_policy))
+        seed plan.now result }
 {
     let family = TupleFamily::new(update_policy, combine_policy);
     ordered_sketch(&family, &alloc, plan, seed)
@@ -165,39 +112,12 @@ pub fn evaluate_sums<
     B: Allocator,
 >(alloc: A, plan: &Plan<S, B>, seed: u64) -> Result<CompactTupleSketch<S, A>, Error>
     requires clones_equal { ClonesEqual S.is_clone }
-    ensures value { IfOk result
-        (IsOrderedSketchOf tuple_key (value_in (tuple_folds (Some S.ZERO) S.sums S.sums) plan.now)
-        (seed_hash seed)) }
-    ensures whole { let f = tuple_folds (Some S.ZERO) S.sums S.sums in
-        OnOk result (IsAllBelow f.key (value_in f plan.now) (whole_in f plan.now)) }
-    ensures merged { (lg_k start : ℕ)
-        → IsMergePlan lg_k start plan.now
-        → let f = tuple_folds (Some S.ZERO) S.sums S.sums in
-        OnOk result (value_in f plan.now ≡ NonEmpty (cut f.key (2 ^ lg_k) (whole_in f plan.now) start)) }
-    ensures kmin { (lg_k start : ℕ)
-        → IsMergePlan lg_k start plan.now
-        → IfOk result (HasKeys tuple_key (kmin (2 ^ lg_k) (whole_hashes plan.now) start)) }
-    ensures lawful { let f = tuple_folds (Some S.ZERO) S.sums S.sums in OnOk result (IsLawfulLeaf f plan.now) }
-    ensures trimmed { (lg_k start : ℕ) (steps : List (LeafStep S))
-        → plan.now ≡ plans.Leaf lg_k start (steps ++ Trim ∷ [])
-        → is_updated steps false ≡ true
-        → let f = tuple_folds (Some S.ZERO) S.sums S.sums in
-        OnOk result (value_in f plan.now ≡ NonEmpty (cut f.key (2 ^ lg_k) (whole f.key f.step_of steps) start)) }
-    ensures trimmed_kmin { (lg_k start : ℕ) (steps : List (LeafStep S))
-        → plan.now ≡ plans.Leaf lg_k start (steps ++ Trim ∷ [])
-        → is_updated steps false ≡ true
-        → IfOk result (HasKeys tuple_key (kmin (2 ^ lg_k) (added steps) start)) }
+    ensures plan { IsPlanAnswer (tuple_folds (Some S.ZERO) S.sums S.sums) seed plan.now result }
     ensures sums { only_unites plan.now ≡ true
         → IfOk result (λ s.
         (h : ℕ) (e : TupleEntry S)
         → entry_at tuple_key s.entries h ≡ Some e
         → S.whole e.summary ≡ total (map S.whole (added_values h plan.now))) }
-    ensures accepted { OnOk result (plan_refusal seed plan.now ≡ None) }
-    ensures unrefused { OnOk result (must_refuse (tuple_folds (Some S.ZERO) S.sums S.sums) seed plan.now ≡ false) }
-    ensures refused { let f = tuple_folds (Some S.ZERO) S.sums S.sums in
-        IfErr result (λ e.
-        ((plan_refusal seed plan.now ≡ Some e) × (must_refuse f seed plan.now ≡ false))
-        ⊎ ((e ≡ OutOfMemory) ⊎ ((e ≡ Policy) × (may_refuse f seed plan.now ≡ true)))) }
 {
     let updates = DefaultUpdatePolicy::<S>::default();
     let unions = DefaultUnionPolicy::<S>::default();

@@ -15,39 +15,27 @@ use Rattle.plan_evaluation.proofs.evaluation.MergedSketches.{merged_keys}
 use Rattle.plan_evaluation.proofs.evaluation.OrderedSketches.{refused_policy}
 use Rattle.plan_evaluation.proofs.plans.evaluate_tuple.Goals as goal
 
-pub returns-clause-value : goal.returns-clause-value
-returns-clause-value g c = rw (c.new-family.ensures.updates, c.new-family.ensures.combines) at c.ordered_sketch.ensures.value
-
-pub returns-clause-whole : goal.returns-clause-whole
-returns-clause-whole g c = on_ok_weaker c.ordered_sketch.result (λ accepted. (sampled _ _ (tuple_folds_keep _ _ _) c.args.seed c.args.plan.now accepted).all_below) c.ordered_sketch.ensures.accepted
-
-pub returns-clause-merged : goal.returns-clause-merged
-returns-clause-merged g c = λ lg_k start merge. on_ok_weaker c.ordered_sketch.result (λ accepted. merge_plan _ (tuple_folds_keep _ _ _) c.args.seed c.args.plan.now accepted lg_k start merge) c.ordered_sketch.ensures.accepted
-
-pub returns-clause-kmin : goal.returns-clause-kmin
-returns-clause-kmin g c = λ lg_k start merge.
-    merged_keys tuple_key (2 ^ lg_k) start _ (whole_hashes c.args.plan.now) _ (seed_hash c.args.seed) c.ordered_sketch.result
-    (tuple_keys _ _ _ c.args.plan.now (merges_unite _ lg_k start c.args.plan.now merge.below_it))
-    (on_ok_weaker c.ordered_sketch.result (λ accepted. merge_plan _ (tuple_folds_keep _ _ _) c.args.seed c.args.plan.now accepted lg_k start merge) c.ordered_sketch.ensures.accepted)
-    (rw (c.new-family.ensures.updates, c.new-family.ensures.combines) at c.ordered_sketch.ensures.value)
-
-pub returns-clause-lawful : goal.returns-clause-lawful
-returns-clause-lawful g c = on_ok_weaker c.ordered_sketch.result (lawful_leaf _ (tuple_folds_keep _ _ _) c.args.seed c.args.plan.now) c.ordered_sketch.ensures.accepted
-
-pub returns-clause-trimmed : goal.returns-clause-trimmed
-returns-clause-trimmed g c = λ lg_k start steps is sketch_after. on_ok_weaker c.ordered_sketch.result (trimmed_plan _ (tuple_folds_keep _ _ _) c.args.seed lg_k start steps c.args.plan.now is sketch_after) c.ordered_sketch.ensures.accepted
-
-pub returns-clause-trimmed_kmin : goal.returns-clause-trimmed_kmin
-returns-clause-trimmed_kmin g c = λ lg_k start steps is sketch_after.
-    merged_keys tuple_key (2 ^ lg_k) start _ (added steps) _ (seed_hash c.args.seed) c.ordered_sketch.result
-    (tuple_leaf_keys _ _ (g.Q.SummaryCombinePolicy.combines c.args.combine_policy) g.row.B.Denot steps)
-    (on_ok_weaker c.ordered_sketch.result (trimmed_plan _ (tuple_folds_keep _ _ _) c.args.seed lg_k start steps c.args.plan.now is sketch_after) c.ordered_sketch.ensures.accepted)
-    (rw (c.new-family.ensures.updates, c.new-family.ensures.combines) at c.ordered_sketch.ensures.value)
-
-pub returns-clause-unrefused : goal.returns-clause-unrefused
-returns-clause-unrefused g c = rw (c.new-family.ensures.updates, c.new-family.ensures.combines) at c.ordered_sketch.ensures.unrefused
-
-pub returns-clause-refused : goal.returns-clause-refused
-returns-clause-refused g c =
-    refused_policy (tuple_folds (g.P.SummaryPolicy.creates c.args.update_policy) (g.P.SummaryUpdatePolicy.updates c.args.update_policy) (g.Q.SummaryCombinePolicy.combines c.args.combine_policy)) c.args.seed c.args.plan.now c.ordered_sketch.result
-    (rw (c.new-family.ensures.updates, c.new-family.ensures.combines) at c.ordered_sketch.ensures.refused)
+pub returns : goal.returns
+returns g c = record {
+  plan = record {
+    value = rw (c.new-family.ensures.updates, c.new-family.ensures.combines) at c.ordered_sketch.ensures.value;
+    whole = on_ok_weaker c.ordered_sketch.result (λ accepted. (sampled _ _ (tuple_folds_keep _ _ _) c.args.seed c.args.plan.now accepted).all_below) c.ordered_sketch.ensures.accepted;
+    merged = λ lg_k start merge. on_ok_weaker c.ordered_sketch.result (λ accepted. merge_plan _ (tuple_folds_keep _ _ _) c.args.seed c.args.plan.now accepted lg_k start merge) c.ordered_sketch.ensures.accepted;
+    kmin = λ lg_k start merge.
+        merged_keys tuple_key (2 ^ lg_k) start _ (whole_hashes c.args.plan.now) _ (seed_hash c.args.seed) c.ordered_sketch.result
+        (tuple_keys _ _ _ c.args.plan.now (merges_unite _ lg_k start c.args.plan.now merge.below_it))
+        (on_ok_weaker c.ordered_sketch.result (λ accepted. merge_plan _ (tuple_folds_keep _ _ _) c.args.seed c.args.plan.now accepted lg_k start merge) c.ordered_sketch.ensures.accepted)
+        (rw (c.new-family.ensures.updates, c.new-family.ensures.combines) at c.ordered_sketch.ensures.value);
+    lawful = on_ok_weaker c.ordered_sketch.result (lawful_leaf _ (tuple_folds_keep _ _ _) c.args.seed c.args.plan.now) c.ordered_sketch.ensures.accepted;
+    trimmed = λ lg_k start steps is sketch_after. on_ok_weaker c.ordered_sketch.result (trimmed_plan _ (tuple_folds_keep _ _ _) c.args.seed lg_k start steps c.args.plan.now is sketch_after) c.ordered_sketch.ensures.accepted;
+    trimmed_kmin = λ lg_k start steps is sketch_after.
+        merged_keys tuple_key (2 ^ lg_k) start _ (added steps) _ (seed_hash c.args.seed) c.ordered_sketch.result
+        (tuple_leaf_keys _ _ (g.Q.SummaryCombinePolicy.combines c.args.combine_policy) g.row.B.Denot steps)
+        (on_ok_weaker c.ordered_sketch.result (trimmed_plan _ (tuple_folds_keep _ _ _) c.args.seed lg_k start steps c.args.plan.now is sketch_after) c.ordered_sketch.ensures.accepted)
+        (rw (c.new-family.ensures.updates, c.new-family.ensures.combines) at c.ordered_sketch.ensures.value);
+    accepted = c.ordered_sketch.ensures.accepted;
+    unrefused = rw (c.new-family.ensures.updates, c.new-family.ensures.combines) at c.ordered_sketch.ensures.unrefused;
+    refused = refused_policy (tuple_folds (g.P.SummaryPolicy.creates c.args.update_policy) (g.P.SummaryUpdatePolicy.updates c.args.update_policy) (g.Q.SummaryCombinePolicy.combines c.args.combine_policy)) c.args.seed c.args.plan.now c.ordered_sketch.result
+        (rw (c.new-family.ensures.updates, c.new-family.ensures.combines) at c.ordered_sketch.ensures.refused);
+  };
+}
