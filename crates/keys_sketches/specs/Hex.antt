@@ -1,5 +1,5 @@
 -- Bytes as text: two hexadecimal digits each.
-use Rattle.std.specs.Prelude.{ℕ, ◌+◌, ◌-◌, ◌*◌, ◌/◌, ◌%◌, ◌&&◌, nat_le, Bool, true, is_some, List, [], ◌∷◌, Option}
+use Rattle.std.specs.Prelude.{ℕ, ◌+◌, ◌-◌, ◌*◌, ◌/◌, ◌%◌, ◌&&◌, nat_le, Bool, true, is_some, List, [], ◌∷◌, Option, get_or}
 use Rattle.std.specs.Prelude.{Some, None, if◌then◌else◌}
 use Rattle.std.specs.Char.{digit_char}
 
@@ -26,6 +26,14 @@ abbrev pub pair_of : (high low : Option ℕ) → Option ℕ
 pair_of (Some high) (Some low) = Some (16 * high + low)
 pair_of (Some high) None = None
 pair_of None low = None
+
+-- what a digit counts, in one expression for all cases; of another letter only a number
+abbrev pub digit_value : ℕ → ℕ
+digit_value letter = letter % 16 + 9 * (letter / 64)
+
+-- the byte of a pair of digits
+abbrev pub pair_value : List ℕ → ℕ
+pair_value pair = 16 * (digit_value (get_or pair 0 0) % 16) + digit_value (get_or pair 1 0) % 16
 
 -- a byte in front of others
 abbrev pub before : Option ℕ → Option (List ℕ) → Option (List ℕ)

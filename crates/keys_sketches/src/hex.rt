@@ -1,7 +1,7 @@
 //! Images as text: two hexadecimal digits per byte.
-ghost use Rattle.std.specs.Prelude.{◌≡◌, ◌++◌, ◌∷◌, ◌<◌, [], Option, Some, None, IfOk, IfSome, OnOk, MatchOption};
+ghost use Rattle.std.specs.Prelude.{◌≡◌, ◌++◌, ◌∷◌, ◌<◌, [], Option, Some, None, IfOk, OnOk, MatchOption, is_some};
 ghost use Rattle.std.specs.Char.{digit_char};
-ghost use Rattle.keys_sketches.specs.Hex.{hex_of, digit_of, are_digits, pair_of, bytes_of_hex};
+ghost use Rattle.keys_sketches.specs.Hex.{hex_of, digit_of, are_digits, digit_value, pair_value, bytes_of_hex};
 
 use std::alloc::{AllocError, Allocator};
 
@@ -35,46 +35,48 @@ pub fn hex_line<A: Allocator>(alloc: A, bytes: &[u8]) -> Result<Vec<u8, A>, Allo
     Ok(line)
 }
 
-/// The digit of a letter, of either case.
-fn digit_of(letter: u8) -> Option<u8>
-    ensures digit { result ≡ digit_of letter }
-    ensures small { IfSome result (λ d. d < 16) }
+/// Whether a letter is a digit, of either case. All comparisons are made, so that vector code makes them.
+#[inline(always)]
+fn is_digit(letter: u8) -> bool
+    ensures { result ≡ is_some (digit_of letter) }
 {
-    match letter {
-        b'0'..=b'9' => Some(letter - 48),
-        b'a'..=b'f' => Some(letter - 87),
-        b'A'..=b'F' => Some(letter - 55),
-        _ => None,
-    }
+    let decimal = (b'0' <= letter) & (letter <= b'9');
+    let lower = (b'a' <= letter) & (letter <= b'f');
+    let upper = (b'A' <= letter) & (letter <= b'F');
+    decimal | lower | upper
 }
 
 /// Whether all bytes are hexadecimal digits, of either case.
 pub(crate) fn are_digits(letters: &[u8]) -> bool
     ensures { result ≡ are_digits letters.now }
 {
+    let mut all = true;
     for letter in letters {
-        if digit_of(*letter).is_none() {
-            return false;
-        }
+        all = all & is_digit(*letter);
     }
-    true
+    all
 }
 
-/// The byte of two letters.
-fn byte_of(high: u8, low: u8) -> Option<u8>
-    ensures { result ≡ pair_of (digit_of high) (digit_of low) }
+/// What a digit counts, of either case. What it is for another letter is only a number.
+#[inline(always)]
+fn digit_value(letter: u8) -> u8
+    ensures { result ≡ digit_value letter }
 {
-    let Some(first) = digit_of(high) else {
-        return None;
-    };
-    let Some(second) = digit_of(low) else {
-        return None;
-    };
-    Some(16 * first + second)
+    letter % 16 + 9 * (letter / 64)
+}
+
+/// The byte of two digits.
+#[inline(always)]
+fn pair_value(pair: &[u8; 2]) -> u8
+    ensures { result ≡ pair_value pair.now }
+{
+    16 * (digit_value(pair[0]) % 16) + digit_value(pair[1]) % 16
 }
 
 /// The bytes that hexadecimal digits of either case spell, two per byte. `None` if their number is odd or if another
 /// byte is among them, such as an LF at the end. The only error is `AllocError`.
+///
+/// The digits are tested first, and then read as if no other letter could be among them: neither loop has a branch.
 pub fn read_hex<A: Allocator + Drop>(
     alloc: A,
     text: &[u8],
@@ -82,17 +84,16 @@ pub fn read_hex<A: Allocator + Drop>(
     ensures { IfOk result (λ o.
         MatchOption o (bytes_of_hex text.now ≡ None) (λ v. bytes_of_hex text.now ≡ Some v.items)) }
 {
-    let mut bytes = Vec::new(alloc);
-    let mut rest = text;
-    while let Some((high, behind)) = rest.split_first() {
-        let Some((low, others)) = behind.split_first() else {
-            return Ok(None);
-        };
-        let Some(byte) = byte_of(*high, *low) else {
-            return Ok(None);
-        };
-        bytes.push(byte)?;
-        rest = others;
+    if text.len() % 2 == 1 || !are_digits(text) {
+        return Ok(None);
     }
+    let (pairs, _) = text.as_chunks::<2>();
+    let found = pairs.iter().map(
+        |pair| -> u8
+            ensures { result ≡ pair_value pair.now }
+        { pair_value(pair) },
+    );
+    let mut bytes = Vec::with_capacity(alloc, pairs.len())?;
+    bytes.extend(found)?;
     Ok(Some(bytes))
 }
