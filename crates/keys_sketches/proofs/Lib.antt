@@ -11,3 +11,4 @@ pub mod Refused
 pub mod Preambles
 mod Seeding
 pub mod Waiting
+pub mod ReadLines

@@ -9,3 +9,4 @@ pub mod Meeting
 pub mod Refusals
 pub mod Batches
 pub mod Pieces
+pub mod WholeLines

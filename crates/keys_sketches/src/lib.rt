@@ -4,7 +4,8 @@
 //! to the image of all their lines, byte for byte. `image_of_texts` sketches texts in memory apart and unites their
 //! images.
 //!
-//! `OpenText` inserts the lines of a text that comes in pieces.
+//! `OpenText` inserts the lines of a text that comes in pieces. `read_line` reads a whole line, such as an image in
+//! hexadecimal.
 //!
 //! The sketch of the lines of a reader, and its image as text:
 //!
@@ -26,6 +27,7 @@ mod pieces;
 mod sketching;
 mod sources;
 mod uniting;
+mod whole_lines;
 
 pub use batches::{Batch, SketchUnion};
 pub use core_images::Flaw as ImageFlaw;
@@ -39,3 +41,4 @@ pub use sketching::{
 };
 pub use sources::{BLOCK, Sources, TextReader, Texts, add_sources, sketch_sources};
 pub use uniting::{United, image_of_texts, unite_images, united_image, views_of};
+pub use whole_lines::read_line;
