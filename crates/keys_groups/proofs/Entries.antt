@@ -1,7 +1,6 @@
 -- The entries of a map whose keys are texts: after a change, and in their order.
-use Rattle.std.proofs.Common.{ℕ, ◌≡◌, Bool, true, false, cond, List, [], ◌∷◌, map, Option, Some, Vec, refl, sym, ap, ◌∙◌, subst, inl, inr}
+use Rattle.std.proofs.Common.{ℕ, ◌≡◌, Bool, true, false, cond, List, [], ◌∷◌, Option, Some, Vec, refl, sym, ap, ◌∙◌, subst, inl, inr}
 use Rattle.std.specs.Prelude.{◌⊎◌, IsSome}
-use Rattle.std.specs.Option.{option_map}
 use Rattle.std.specs.Str.{bytes_eq}
 use Rattle.std.specs.List.{AllByRecursion}
 use Rattle.std.specs.List.Sorted.{IsStrictlySortedBy}
@@ -14,6 +13,7 @@ use Rattle.std.specs.BTreeMap.{BTreeMap, get_by, is_at, UpdatesBy}
 use Rattle.std.proofs.lemmas.Cmp.{tied_itself}
 use Rattle.std.proofs.lemmas.Map.Text.{is_eq-slice_cmp}
 use Rattle.keys_sketches.specs.Keys.{IsAmong}
+use Rattle.keys_groups.specs.Names.{texts_of}
 
 -- both keys have the same bytes
 pub same_text : (text other : List ℕ) → is_eq (slice_cmp nat_cmp text other) ≡ true → text ≡ other
@@ -21,10 +21,6 @@ same_text text other same = (bytes_decides text other).0 (sym (is_eq-slice_cmp t
 
 pub same_itself : (text : List ℕ) → is_eq (slice_cmp nat_cmp text text) ≡ true
 same_itself text = ap is_eq (tied_itself nat_list_cmp_total text)
-
-map_cond : {X S : Type 0} (state : X → S) (b : Bool) (x y : Option X) → option_map state (cond b x y) ≡ cond b (option_map state x) (option_map state y)
-map_cond state true x y = refl
-map_cond state false x y = refl
 
 some_cond : {X : Type 0} (b : Bool) (x : X) (o : Option X) → IsSome o → IsSome (cond b (Some x) o)
 some_cond true x o some = refl
@@ -34,10 +30,6 @@ module _ {A X : Type 0} where
   -- the value at a text
   abbrev pub value_at : List ℕ → List (Vec ℕ A × X) → Option X
   value_at text entries = lookup (is_at (λ key. slice_cmp nat_cmp text key.items)) entries
-
-  -- the texts of the keys
-  abbrev pub texts_of : List (Vec ℕ A × X) → List (List ℕ)
-  texts_of entries = map (λ entry. entry.0.items) entries
 
   -- ---- a change at a text
 
@@ -56,27 +48,6 @@ module _ {A X : Type 0} where
           | true ↦ λ same. subst (λ (o : List ℕ). get_by (λ k. slice_cmp nat_cmp o k.items) n ≡ w) ((bytes_decides text other).0 same) changed.1
           | false ↦ λ apart. others_stay m n w changed other apart
         ]) refl
-
-    module _ {S : Type 0} (state : X → S) where
-      -- a value was set
-      pub set_at : (m n : BTreeMap (Vec ℕ A) X) (w : X) (s : S) → UpdatesBy (λ x y. slice_cmp nat_cmp x.items y.items) (λ k. slice_cmp nat_cmp text k.items) m n (Some w) → state w ≡ s → (other : List ℕ) →
-          option_map state (get_by (λ k. slice_cmp nat_cmp other k.items) n) ≡ cond (bytes_eq text other) (Some s) (option_map state (get_by (λ k. slice_cmp nat_cmp other k.items) m))
-      set_at m n w s changed is other =
-          ap (option_map state) (changed_at m n (Some w) changed other)
-          ∙ map_cond state (bytes_eq text other) (Some w) (get_by (λ k. slice_cmp nat_cmp other k.items) m)
-          ∙ ap (λ (t : S). cond (bytes_eq text other) (Some t) (option_map state (get_by (λ k. slice_cmp nat_cmp other k.items) m))) is
-
-      -- the value that was there was changed
-      pub changed_value : (m n : BTreeMap (Vec ℕ A) X) (v w : X) (step : S → S) → Some v ≡ get_by (λ k. slice_cmp nat_cmp text k.items) m →
-          (IsSome (get_by (λ k. slice_cmp nat_cmp text k.items) m) → UpdatesBy (λ x y. slice_cmp nat_cmp x.items y.items) (λ k. slice_cmp nat_cmp text k.items) m n (Some w)) → state w ≡ step (state v) →
-          ((other : List ℕ) → option_map state (get_by (λ k. slice_cmp nat_cmp other k.items) n) ≡ cond (bytes_eq text other) (option_map step (option_map state (get_by (λ k. slice_cmp nat_cmp text k.items) m))) (option_map state (get_by (λ k. slice_cmp nat_cmp other k.items) m)))
-          × IsSome (option_map state (get_by (λ k. slice_cmp nat_cmp text k.items) m))
-      changed_value m n v w step there changed is = (
-        λ other.
-            set_at m n w (step (state v)) (changed (subst (λ (o : Option X). IsSome o) there refl)) is other
-            ∙ ap (λ o. cond (bytes_eq text other) (option_map step (option_map state o)) (option_map state (get_by (λ k. slice_cmp nat_cmp other k.items) m))) there,
-        subst (λ (o : Option X). IsSome (option_map state o)) there refl,
-      )
 
   -- ---- entries in ascending order
 

@@ -18,7 +18,8 @@ use Rattle.keys_sketches.specs.Shards.{AreRead}
 use Rattle.keys_sketches.specs.Unions.{IsReady, HasUnited}
 use Rattle.keys_groups.specs.Tabs.{before_tab}
 use Rattle.keys_groups.specs.United.{image_in, images_in, AreNames, union_at, IsGroupUnion, IsUniting, AreReady, SetsUnion, UpdatesUnion, BeginsUnion, AreUnited}
-use Rattle.keys_groups.proofs.Entries.{value_at, texts_of, same_itself, texts_ascend, among_texts, has_value, not_below}
+use Rattle.keys_groups.specs.Names.{texts_of}
+use Rattle.keys_groups.proofs.Entries.{value_at, same_itself, texts_ascend, among_texts, has_value, not_below}
 use Rattle.keys_groups.proofs.LinesInGroups.{filter_more}
 
 -- the images of one line more

@@ -2,6 +2,8 @@ pub mod WholeFields
 pub mod WholeLines
 pub mod LinesInGroups
 pub mod Entries
+pub mod Marks
+pub mod NamedEntries
 pub mod ReadInTurn
 pub mod Ranking
 pub mod LastTabs

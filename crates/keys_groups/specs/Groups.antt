@@ -40,7 +40,7 @@ AreSketched grouping lines (name ∷ names) [] = ⊥
 
 -- the groups of lines that are left have these names
 abbrev pub AreLeft : Grouping → (lines names : List (List ℕ)) → Groups → Type 0
-AreLeft grouping lines names groups = AreSketched grouping lines names groups.map.entries
+AreLeft grouping lines names groups = AreSketched grouping lines names groups.left.items
 
 -- these are the groups of lines
 abbrev pub HasGroups : Grouping → (lines : List (List ℕ)) → Groups → Type 0

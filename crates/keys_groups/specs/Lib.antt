@@ -1,3 +1,4 @@
+pub mod Names
 pub mod Groups
 pub mod States
 pub mod Reading

@@ -1,20 +1,25 @@
 //! Groups of lines, each with its sketch.
-ghost use Rattle.std.specs.Prelude.{◌≡◌, ℕ, List, [], None, Some, IfOk, OnOk, true};
+ghost use Rattle.std.specs.Prelude.{◌≡◌, ℕ, List, [], None, Some, IfOk, OnOk, true, slice_get};
+ghost use Rattle.std.specs.List.Sorted.{IsPermutation, IsSorted};
+ghost use Rattle.std.specs.Ordering.{nat_cmp};
+ghost use Rattle.std.specs.Cmp.Lexicographic.{slice_cmp};
 ghost use Rattle.core_laws.specs.Refusal.{Refuses};
 ghost use Rattle.core_laws.specs.Settings.{settings_refusal};
 ghost use Rattle.core_laws.specs.declared.TheConstants.{MAX_THETA};
 ghost use Rattle.keys_lines.specs.declared.key.Hashing.{Hashing};
 ghost use Rattle.keys_sketches.specs.Keys.{line_state, new_state, with_line};
-ghost use Rattle.keys_groups.specs.Groups.{AreLeft, IsNext};
+ghost use Rattle.keys_groups.specs.Groups.{AreLeft, HasGroups, IsNext};
+ghost use Rattle.keys_groups.specs.Names.{texts_of, AreNamed};
 ghost use Rattle.keys_groups.specs.States.{Changes, UpdatesGroup, AddsLine, IsGrouped};
 ghost use Rattle.keys_groups.specs.declared.groups.Grouping.{Grouping};
 
 use crate::fields::key_in;
+use crate::names::NameIndex;
 use keys_lines::{Hashing, Key, line_hash};
 use keys_sketches::trim_and_compact;
 use sketch_base::Error;
 use std::alloc::Global;
-use std::collections::BTreeMap;
+use std::collections::VecDeque;
 use theta_sketches::{CompactThetaSketch, ResizeFactor, ThetaSketch, ThetaSketchBuilder};
 
 /// How lines are put into groups and sketched.
@@ -39,35 +44,54 @@ pub struct Group {
 
 /// Groups of lines, each with a sketch that takes more lines.
 #[derive(Drop)]
-pub struct Groups {
-    pub(crate) map: BTreeMap<Vec<u8>, ThetaSketch>,
+pub(crate) struct Table {
+    pub(crate) entries: Vec<(Vec<u8>, ThetaSketch)>,
+    pub(crate) index: NameIndex,
 }
 
-impl Groups {
+/// Groups of lines, in the ascending order of the bytes of their names.
+#[derive(Drop)]
+pub struct Groups {
+    pub(crate) left: VecDeque<(Vec<u8>, ThetaSketch)>,
+}
+
+impl Table {
     /// No groups.
-    pub(crate) fn new(alloc: Global) -> Groups
-        ensures { (grouping : Grouping) → IsGrouped grouping [] result.map }
+    pub(crate) fn new(alloc: Global) -> Table
+        ensures grouped { (grouping : Grouping) → IsGrouped grouping [] result.entries.items }
+        ensures named { AreNamed result.index result.entries.items }
     {
-        Groups {
-            map: BTreeMap::new(alloc),
+        Table {
+            entries: Vec::new(alloc),
+            index: NameIndex::new(alloc),
         }
     }
 
-    /// Inserts a line into the group of this name, if there is one. Returns whether there is.
-    fn update(&mut self, hashing: Hashing, name: &[u8], line: &[u8]) -> Result<bool, Error>
-        ensures updated { IfOk result (UpdatesGroup hashing name.now line.now self.old.map self.new.map) }
+    /// Inserts a line into the group of this number and name.
+    #[inline(always)]
+    fn update(
+        &mut self,
+        hashing: Hashing,
+        number: usize,
+        name: &[u8],
+        line: &[u8],
+    ) -> Result<(), Error>
+        requires named { AreNamed self.old.index self.old.entries.items }
+        requires here { slice_get (texts_of self.old.entries.items) number ≡ Some name.now }
+        ensures updated { OnOk result (UpdatesGroup hashing name.now line.now self.old.entries.items self.new.entries.items) }
+        ensures named { OnOk result (AreNamed self.new.index self.new.entries.items) }
         ensures refused { Refuses result None true }
     {
-        match self.map.get_mut(name) {
-            Some(sketch) => {
-                sketch.update_hash(line_hash(hashing, line))?;
-                Ok(true)
+        match self.entries.get_mut(number) {
+            Some(entry) => {
+                entry.1.update_hash(line_hash(hashing, line))?;
+                Ok(())
             }
-            None => Ok(false),
+            None => Ok(()),
         }
     }
 
-    /// Makes a group of this name, which has this line alone. An older group of the name is dropped.
+    /// Makes a group of this name, which has this line alone.
     fn begin(
         &mut self,
         alloc: Global,
@@ -76,15 +100,19 @@ impl Groups {
         line: &[u8],
     ) -> Result<(), Error>
         requires settled { settings_refusal grouping.lg_k MAX_THETA grouping.hashing.seed ≡ None }
+        requires named { AreNamed self.old.index self.old.entries.items }
+        requires absent { (number : ℕ) → slice_get (texts_of self.old.entries.items) number ≡ Some name.now → ⊥ }
         ensures begun { OnOk result (Changes name.now
             (Some (with_line grouping.hashing (new_state grouping.hashing.seed grouping.lg_k) line.now))
-            self.old.map self.new.map) }
+            self.old.entries.items self.new.entries.items) }
+        ensures named { OnOk result (AreNamed self.new.index self.new.entries.items) }
         ensures refused { Refuses result None true }
     {
         let mut sketch = small_sketch(alloc, grouping)?;
         sketch.update_hash(line_hash(grouping.hashing, line))?;
         let key = Vec::from_slice(alloc, name)?;
-        self.map.insert(key, sketch)?;
+        self.index.add(alloc, name, self.entries.len())?;
+        self.entries.push((key, sketch))?;
         Ok(())
     }
 
@@ -96,22 +124,48 @@ impl Groups {
         line: &[u8],
     ) -> Result<(), Error>
         requires settled { settings_refusal grouping.lg_k MAX_THETA grouping.hashing.seed ≡ None }
-        ensures added { OnOk result (AddsLine grouping line.now self.old.map self.new.map) }
+        requires named { AreNamed self.old.index self.old.entries.items }
+        ensures added { OnOk result (AddsLine grouping line.now self.old.entries.items self.new.entries.items) }
+        ensures named { OnOk result (AreNamed self.new.index self.new.entries.items) }
         ensures refused { Refuses result None true }
     {
         let name = key_in(grouping.by, line);
-        let found = self.update(grouping.hashing, name, line)?;
-        if found {
-            return Ok(());
+        match self.index.find(self.entries.as_slice(), name) {
+            Some(number) => self.update(grouping.hashing, number, name, line),
+            None => self.begin(alloc, grouping, name, line),
         }
-        self.begin(alloc, grouping, name, line)
     }
 
     /// The number of groups.
     pub(crate) fn count(&self) -> usize {
-        self.map.len()
+        self.entries.len()
     }
 
+    /// The groups, in the order of their names.
+    pub(crate) fn into_groups(self) -> Groups
+        requires named { AreNamed self.index self.entries.items }
+        ensures { (grouping : Grouping) (lines : List (List ℕ))
+            → IsGrouped grouping lines self.entries.items
+            → HasGroups grouping lines result }
+    {
+        let Table { mut entries, index } = self;
+        drop(index);
+        sort_entries(&mut entries);
+        Groups {
+            left: VecDeque::from_vec(entries),
+        }
+    }
+}
+
+/// Sorts entries by their names.
+fn sort_entries<V>(entries: &mut Vec<(Vec<u8>, V)>)
+    ensures permutation { IsPermutation entries.old.items entries.new.items }
+    ensures sorted { IsSorted (λ x y. slice_cmp nat_cmp x.0.items y.0.items) entries.new.items }
+{
+    entries.sort_unstable_by(|entry, other| entry.0.as_slice().cmp(other.0.as_slice()));
+}
+
+impl Groups {
     /// Takes out the first group of those that are left, or returns `None` if none is. Refused only with
     /// `OutOfMemory`; the group is then dropped.
     pub fn next_group(&mut self) -> Result<Option<Group>, Error>
@@ -120,7 +174,7 @@ impl Groups {
             → IfOk result (IsNext grouping lines names self.new) }
         ensures refused { Refuses result None true }
     {
-        let Some((name, sketch)) = self.map.pop_first() else {
+        let Some((name, sketch)) = self.left.pop_front() else {
             return Ok(None);
         };
         let mut sketch = sketch;

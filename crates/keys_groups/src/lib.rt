@@ -1,8 +1,9 @@
 //! Lines in groups, by a field, and a sketch for each group.
 //!
 //! The promise is that of `group_sources`: the groups are exactly those of the lines, each once and in ascending
-//! order, and each has the sketch of its own lines. The groups are in a balanced tree, so a line is added in time
-//! logarithmic in their number.
+//! order, and each has the sketch of its own lines. A line finds its group by a hash of the group's name, and the
+//! groups are sorted once at the end. The hash has no secret: names that are chosen to share their places go into a
+//! balanced tree, so a line is added in time logarithmic in the number of groups, whatever their names are.
 //!
 //! ```
 //! let hashing = Hashing { key: Key::field(3, b'\t'), seed: 9001 };
@@ -19,6 +20,7 @@ mod fields;
 mod files;
 mod groups;
 pub mod laws;
+mod names;
 mod order;
 mod ranked;
 mod reading;

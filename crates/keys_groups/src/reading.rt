@@ -6,11 +6,11 @@ ghost use Rattle.core_laws.specs.declared.TheConstants.{MAX_THETA};
 ghost use Rattle.keys_lines.specs.Lines.{lines_of, lines_of_all};
 ghost use Rattle.keys_sketches.specs.Refusals.{FailsIf, RefusesRead};
 ghost use Rattle.keys_groups.specs.Groups.{HasGroups, without_lf};
+ghost use Rattle.keys_groups.specs.Names.{AreNamed};
 ghost use Rattle.keys_groups.specs.Reading.{ReadsLine};
 ghost use Rattle.keys_groups.specs.States.{IsGrouped};
 
-use crate::groups::{Grouping, Groups, check_settings};
-use crate::order::names_ascend;
+use crate::groups::{Grouping, Groups, Table, check_settings};
 use keys_sketches::{BLOCK, ReadError, Sources, TextReader, read_failure};
 use sketch_base::Error;
 use std::alloc::{AllocError, Global};
@@ -53,17 +53,19 @@ pub(crate) fn next_line<R: Read>(reader: &mut BufReader<R>, line: &mut Vec<u8>) 
 /// Inserts all lines that a reader has left. Refused only with `OutOfMemory`. If the reader fails, its error is
 /// returned. After an error, some of the first lines are inserted; no clause says which.
 fn add_lines<R: TextReader + Drop, W: GroupWatch>(
-    groups: &mut Groups,
+    groups: &mut Table,
     alloc: Global,
     grouping: Grouping,
     reader: R,
     watch: &mut W,
 ) -> Result<(), ReadError>
     requires settled { settings_refusal grouping.lg_k MAX_THETA grouping.hashing.seed ≡ None }
+    requires named { AreNamed groups.old.index groups.old.entries.items }
     ensures lines { (before : List (List ℕ))
-        → IsGrouped grouping before groups.old.map
+        → IsGrouped grouping before groups.old.entries.items
         → IfSome (R.remaining reader) (λ text.
-        OnOk result (IsGrouped grouping (before ++ lines_of text) groups.new.map)) }
+        OnOk result (IsGrouped grouping (before ++ lines_of text) groups.new.entries.items)) }
+    ensures named { OnOk result (AreNamed groups.new.index groups.new.entries.items) }
     ensures refused { RefusesRead result None }
     ensures fallible { IfErr result (FailsIf R.may_fail) }
 {
@@ -105,16 +107,13 @@ pub fn group_sources<S: Sources, W: GroupWatch>(
     ensures fallible { IfErr result (FailsIf S.may_fail) }
 {
     check_settings(alloc, grouping)?;
-    let mut groups = Groups::new(alloc);
+    let mut groups = Table::new(alloc);
     for _ in 0..u64::MAX {
         match sources.next_source() {
             Ok(Some(source)) => {
                 add_lines(&mut groups, alloc, grouping, source, watch)?;
             }
-            Ok(None) => {
-                names_ascend(&groups.map);
-                return Ok(groups);
-            }
+            Ok(None) => return Ok(groups.into_groups()),
             Err(error) => return Err(read_failure(S::may_fail(), error)),
         }
     }
