@@ -5,6 +5,7 @@ pub mod Entries
 pub mod Marks
 pub mod NamedEntries
 pub mod ReadInTurn
+pub mod TakenLines
 pub mod Ranking
 pub mod LastTabs
 pub mod ImagesInGroups

@@ -74,3 +74,14 @@ key_parted c before line front others found parted lacks is =
 pub key_whole : (c before : ℕ) (line : List ℕ) → Lacks c line → line ≡ key_of (Field before c) line
 key_whole c before line lacks =
     sym (ap (λ b. cond b line (get_or (fields_of c line) before [])) (eq-eqb (length (fields_of c line)) 1 (ap length (one_field c line lacks))))
+
+-- the first field of a line with a separator, and a later one
+pub key_first : (c before : ℕ) (line front others : List ℕ) → line ≡ front ++ c ∷ others → Lacks c front → before ≡ 0 → front ≡ key_of (Field before c) line
+key_first c before line front others parted lacks none =
+    key_parted c before line front others front parted lacks
+    (sym (ap (λ fs. get_or fs before []) (ap (fields_of c) parted ∙ first_field c front others lacks) ∙ ap (λ n. get_or (front ∷ fields_of c others) n []) none))
+
+pub key_later : (c before : ℕ) (line front others found : List ℕ) → line ≡ front ++ c ∷ others → Lacks c front → (before ≡ 0 → ⊥) → found ≡ get_or (fields_of c others) (before - 1) [] → found ≡ key_of (Field before c) line
+key_later c before line front others found parted lacks some is =
+    key_parted c before line front others found parted lacks
+    (is ∙ sym (ap (λ fs. get_or fs before []) (ap (fields_of c) parted ∙ first_field c front others lacks) ∙ next_of front (fields_of c others) before (before - 1) (omega (arith, some))))

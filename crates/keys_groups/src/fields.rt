@@ -1,8 +1,8 @@
 //! The key of a whole line.
 ghost use Rattle.std.specs.Prelude.{◌≡◌, [], get_or};
-ghost use Rattle.keys_lines.specs.Keys.{fields_of, key_of};
+ghost use Rattle.keys_lines.specs.Keys.{fields_of, key_of, line_hash};
 
-use keys_lines::{Key, cut_at};
+use keys_lines::{Hashing, Key, cut_at, line_hash};
 
 /// The field of a text after this many others; empty if the text has fewer.
 fn field_after(before: u32, separator: u8, text: &[u8]) -> &[u8]
@@ -22,14 +22,34 @@ fn field_after(before: u32, separator: u8, text: &[u8]) -> &[u8]
 }
 
 /// The key of a line.
+#[inline(always)]
 pub(crate) fn key_in(key: Key, line: &[u8]) -> &[u8]
     ensures { result.now ≡ key_of key line.now }
 {
     match key {
         Key::Line => line,
         Key::Field(before, separator) => match cut_at(line, separator) {
-            Some(_) => field_after(before, separator, line),
+            Some((first, others)) => {
+                if before == 0 {
+                    first
+                } else {
+                    field_after(before - 1, separator, others)
+                }
+            }
             None => line,
         },
     }
+}
+
+/// The hash of the key of a line. The key is found first and then hashed alone: `line_hash` is made for lines that
+/// come in pieces, and hashes the first field until it has met a separator.
+#[inline(always)]
+pub(crate) fn key_hash(hashing: Hashing, line: &[u8]) -> u64
+    ensures { result ≡ line_hash hashing line.now }
+{
+    let whole = Hashing {
+        key: Key::Line,
+        seed: hashing.seed,
+    };
+    line_hash(whole, key_in(hashing.key, line))
 }

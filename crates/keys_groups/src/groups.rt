@@ -13,9 +13,9 @@ ghost use Rattle.keys_groups.specs.Names.{texts_of, AreNamed};
 ghost use Rattle.keys_groups.specs.States.{Changes, UpdatesGroup, AddsLine, IsGrouped};
 ghost use Rattle.keys_groups.specs.declared.groups.Grouping.{Grouping};
 
-use crate::fields::key_in;
+use crate::fields::{key_hash, key_in};
 use crate::names::NameIndex;
-use keys_lines::{Hashing, Key, line_hash};
+use keys_lines::{Hashing, Key};
 use keys_sketches::trim_and_compact;
 use sketch_base::Error;
 use std::alloc::Global;
@@ -84,7 +84,7 @@ impl Table {
     {
         match self.entries.get_mut(number) {
             Some(entry) => {
-                entry.1.update_hash(line_hash(hashing, line))?;
+                entry.1.update_hash(key_hash(hashing, line))?;
                 Ok(())
             }
             None => Ok(()),
@@ -109,7 +109,7 @@ impl Table {
         ensures refused { Refuses result None true }
     {
         let mut sketch = small_sketch(alloc, grouping)?;
-        sketch.update_hash(line_hash(grouping.hashing, line))?;
+        sketch.update_hash(key_hash(grouping.hashing, line))?;
         let key = Vec::from_slice(alloc, name)?;
         self.index.add(alloc, name, self.entries.len())?;
         self.entries.push((key, sketch))?;

@@ -1,11 +1,16 @@
 use Rattle.std.proofs.Common.{ap, sym, ◌∙◌}
 use Rattle.keys_lines.specs.Keys.{key_of}
-use Rattle.keys_groups.proofs.WholeFields.{key_parted, key_whole}
+use Rattle.keys_groups.proofs.WholeFields.{key_first, key_later, key_whole}
 use Rattle.keys_groups.proofs.fields.key_in.Goals as goal
 
-pub returns-in-Some : goal.returns-in-Some
-returns-in-Some c =
-    key_parted c.in-Field.separator c.in-Field.before c.args.line.now c.in-Some.field-0.0.now c.in-Some.field-0.1.now c.field_after.result.now c.in-Some.ensures.parts c.in-Some.ensures.lacks c.field_after.ensures
+pub returns-then-before-eq0 : goal.returns-then-before-eq0
+returns-then-before-eq0 c =
+    key_first c.in-Field.separator c.in-Field.before c.args.line.now c.in-Some.first.now c.in-Some.others.now c.in-Some.ensures.parts c.in-Some.ensures.lacks c.if-before-eq0.true
+    ∙ ap (λ key. key_of key c.args.line.now) (sym c.in-Field.is)
+
+pub returns-else-before-eq0 : goal.returns-else-before-eq0
+returns-else-before-eq0 c =
+    key_later c.in-Field.separator c.in-Field.before c.args.line.now c.in-Some.first.now c.in-Some.others.now c.field_after.result.now c.in-Some.ensures.parts c.in-Some.ensures.lacks c.if-before-eq0.false c.field_after.ensures
     ∙ ap (λ key. key_of key c.args.line.now) (sym c.in-Field.is)
 
 pub returns-in-None : goal.returns-in-None

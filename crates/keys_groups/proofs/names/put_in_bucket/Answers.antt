@@ -1,4 +1,4 @@
-use Rattle.std.proofs.Common.{◌<◌, length, refl, sym, ap, ◌∙◌, arith}
+use Rattle.std.proofs.Common.{◌<◌, length, refl, arith}
 use Rattle.std.proofs.lemmas.Option.{slice_get_read, slice_get_within}
 use Rattle.keys_groups.proofs.Marks.{marks_kept, mark_put}
 use Rattle.keys_groups.proofs.names.put_in_bucket.Goals as goal

@@ -1,4 +1,4 @@
-use Rattle.std.proofs.Common.{ℕ, ◌≡◌, List, length}
+use Rattle.std.proofs.Common.{ℕ, List, length}
 use Rattle.keys_groups.specs.Names.{Mark, HasMark, IsReachedIn}
 use Rattle.keys_groups.proofs.names.put_in_levels.Given as goal
 

@@ -1,4 +1,4 @@
-use Rattle.std.proofs.Common.{◌≡◌, List, ℕ, Some, arith, length, sym, ap, ◌∙◌, subst}
+use Rattle.std.proofs.Common.{◌≡◌, Some, arith, length, sym, ap, ◌∙◌, subst}
 use Rattle.std.proofs.lemmas.List.{length-map}
 use Rattle.keys_sketches.specs.Keys.{new_state, with_line}
 use Rattle.keys_sketches.proofs.Takings.{state_after_line}
@@ -14,7 +14,7 @@ returns-clause-begun c =
     let entries = c.args.self.now.entries.items in
     let state = with_line hashing (new_state hashing.seed grouping.lg_k) c.args.line.now in
     let made : _ ≡ state =
-    state_after_line hashing c.in_ok-sketch.sketch c.update_hash.new.self c.line_hash.result c.args.line.now c.line_hash.ensures c.in_ok-update_hash.ensures.after c.in_ok-update_hash.ensures.nonempty
+    state_after_line hashing c.in_ok-sketch.sketch c.update_hash.new.self c.key_hash.result c.args.line.now c.key_hash.ensures c.in_ok-update_hash.ensures.after c.in_ok-update_hash.ensures.nonempty
     ∙ ap (λ s. with_line hashing s c.args.line.now) c.in_ok-sketch.ensures.new in
     subst (λ es. Changes c.args.name.now (Some state) entries es) (sym c.in_ok-push.ensures.items)
     (begun_group grouping entries c.args.name.now c.in_ok-key.key c.update_hash.new.self state c.in_ok-key.ensures.items c.requires.absent made)

@@ -1,4 +1,3 @@
-use Rattle.std.proofs.Common.{[]}
 use Rattle.keys_lines.specs.declared.key.Key.TheVariants.{Line}
 use Rattle.keys_groups.specs.declared.groups.Grouping.{Grouping}
 use Rattle.keys_groups.proofs.LinesInGroups.{none_named}

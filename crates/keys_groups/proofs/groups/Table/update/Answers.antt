@@ -13,7 +13,7 @@ returns-in_ok-update_hash-in-Some-clause-updated c =
     let new = c.update_hash.new.self in
     let grouping : Grouping = record { by = c.args.hashing.key; hashing = c.args.hashing; lg_k = 0 } in
     updated_group grouping entries c.args.number c.args.name.now c.args.line.now entry new c.requires.named.distinct c.requires.here (entry_got entries c.args.number c.args.name.now entry c.requires.here c.in-Some.ensures.value)
-    (state_after_line c.args.hashing entry.1 new c.line_hash.result c.args.line.now c.line_hash.ensures c.in_ok-update_hash-in-Some.ensures.after c.in_ok-update_hash-in-Some.ensures.nonempty)
+    (state_after_line c.args.hashing entry.1 new c.key_hash.result c.args.line.now c.key_hash.ensures c.in_ok-update_hash-in-Some.ensures.after c.in_ok-update_hash-in-Some.ensures.nonempty)
 
 pub returns-in_ok-update_hash-in-Some-clause-named : goal.returns-in_ok-update_hash-in-Some-clause-named
 returns-in_ok-update_hash-in-Some-clause-named c =
