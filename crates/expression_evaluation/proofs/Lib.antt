@@ -4,3 +4,4 @@ pub mod TwoSketches
 pub mod MappedOperators
 pub mod Unrefused
 pub mod SumsRefused
+pub mod OpenUnions

@@ -1,6 +1,6 @@
 -- Two sketches combined, and when that is refused.
 use Rattle.std.proofs.Common.{◌≡◌, ℕ, ◌^◌, Bool, true, false, cond, List, [], ◌∷◌, ◌++◌, Option, Some, None, Result, Ok, Err, refl, ap, sym, subst, ◌∙◌, arith, inl, inr}
-use Rattle.std.specs.Prelude.{◌⊎◌, ◌==◌, ◌||◌, IsTrue, IfOk, IfErr, OnOk, MatchOption}
+use Rattle.std.specs.Prelude.{◌⊎◌, ◌==◌, ◌||◌, IsTrue, IfOk, IfErr, MatchOption}
 use Rattle.std.proofs.lemmas.Bool.Decides.{nat_tests}
 use Rattle.sketch_base.specs.Seed.{seed_hash}
 use Rattle.sketch_base.specs.declared.error.ErrorKind.{ErrorKind}
@@ -50,11 +50,10 @@ merge_error e other (inl memory) = inl memory
 merge_error e other (inr policy) = inr (policy.0, other policy.1)
 
 -- if no merge is refused, an evaluation is refused for its refusal or for memory
-pub refuses_alone : {T : Type 0} (r : Result T ErrorKind) (refusal : Option ErrorKind) (may : Type 0) → (may → ⊥) → OnOk r (refusal ≡ None) → IfErr r (IsEvaluationError refusal may) → Refuses r refusal true
-refuses_alone (Ok x) refusal may never accepted refused = accepted
-refuses_alone (Err e) refusal may never accepted (inl kind) = inl kind
-refuses_alone (Err e) refusal may never accepted (inr (inl memory)) = inr (memory, refl)
-refuses_alone (Err e) refusal may never accepted (inr (inr policy)) = absurd (never policy.1)
+pub error_alone : (refusal : Option ErrorKind) (may : Type 0) (e : ErrorKind) → (may → ⊥) → IsEvaluationError refusal may e → (refusal ≡ Some e) ⊎ ((e ≡ OutOfMemory) × IsTrue true)
+error_alone refusal may e never (inl kind) = inl kind
+error_alone refusal may e never (inr (inl memory)) = inr (memory, refl)
+error_alone refusal may e never (inr (inr policy)) = absurd (never policy.1)
 
 -- settings in range have a seed that is accepted
 pub seed_accepted : (lg_k seed : ℕ) → settings_refusal lg_k MAX_THETA seed ≡ None → seed_refusal seed ≡ None

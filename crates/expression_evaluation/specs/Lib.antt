@@ -1,3 +1,5 @@
 pub mod Values
 pub mod Running
 pub mod Sums
+pub mod OpenUnions
+pub mod Contents

@@ -47,7 +47,7 @@ fn are_accepted<F: SetFamily<A, B>, A: Allocator, B: Allocator>(
     true
 }
 
-/// Replaces the last two sketches by their combination.
+/// Replaces the last two results by their combination.
 fn combine_last<F: SetFamily<A, B>, A: Allocator, B: Allocator>(
     family: &F,
     alloc: A,
@@ -72,7 +72,7 @@ fn combine_last<F: SetFamily<A, B>, A: Allocator, B: Allocator>(
     let Some(first) = stack.pop() else {
         return Err(Error::new(ErrorKind::InvalidArgument));
     };
-    let sketch = family.combine(alloc, seed, lg_k, operator, &first, &second)?;
+    let sketch = family.combine(alloc, seed, lg_k, operator, first, second)?;
     stack.push(sketch)?;
     Ok(())
 }

@@ -48,7 +48,8 @@ pub fn evaluate<A: Allocator + Clone + Drop, B: Allocator>(
         → IfOk result (λ s. IsSample hash_key (compact_value hash_key s) (set_of sets e)) }
     ensures refused { Refuses result (evaluation_refusal seed lg_k steps.now sketches.now) true }
 {
-    evaluate_in::<ThetaSets, A, B>(&ThetaSets, alloc, seed, lg_k, steps, sketches)
+    let result = evaluate_in::<ThetaSets, A, B>(&ThetaSets, alloc, seed, lg_k, steps, sketches)?;
+    result.into_sketch()
 }
 
 /// Evaluates the steps of an expression over one sketch of sums per name, in postfix order. In a union and an

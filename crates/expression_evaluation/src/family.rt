@@ -47,7 +47,7 @@ pub trait SetFamily<A: Allocator, B: Allocator> {
             IsAnswer rules.key (value_by rules named sketch.now) (seed_hash seed) true (listed s)) }
         ensures refused { Refuses result None true };
 
-    /// Two sketches of this seed combined, ordered. A union has 2^`lg_k` nominal entries. Refused with `OutOfMemory`,
+    /// Two results of this seed combined, ordered. A union has 2^`lg_k` nominal entries. Refused with `OutOfMemory`,
     /// or with `Policy` if the family refuses to merge two entries of one key below the lesser theta.
     fn combine(
         &self,
@@ -55,15 +55,15 @@ pub trait SetFamily<A: Allocator, B: Allocator> {
         seed: u64,
         lg_k: u8,
         operator: Operator,
-        first: &Self::Sketch,
-        second: &Self::Sketch,
+        first: Self::Sketch,
+        second: Self::Sketch,
     ) -> Result<Self::Sketch, Error>
         requires settings { settings_refusal lg_k MAX_THETA seed ≡ None }
-        requires seeds { BothHaveSeed seed (listed first.now) (listed second.now) }
+        requires seeds { BothHaveSeed seed (listed first) (listed second) }
         ensures value { IfOk result (λ s.
-            IsCombination rules lg_k seed operator (listed first.now) (listed second.now) (listed s)) }
+            IsCombination rules lg_k seed operator (listed first) (listed second) (listed s)) }
         ensures refused { IfErr result (IsMergeError (
-            MayRefuseTwo rules operator (value_by rules listed first.now) (value_by rules listed second.now))) };
+            MayRefuseTwo rules operator (value_by rules listed first) (value_by rules listed second))) };
 
     /// Merged entries keep their keys.
     ghost keeps: { KeepsKey rules.key rules.merges };

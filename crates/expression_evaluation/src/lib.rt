@@ -16,6 +16,8 @@ mod evaluation;
 mod expressions;
 mod family;
 pub mod laws;
+mod open_union;
+mod results;
 mod sums;
 mod theta;
 

@@ -11,7 +11,7 @@ ghost use Rattle.core_operators.specs.Intersection.{seed_refusal};
 ghost use Rattle.core_operators.specs.Union.{empty_union, union_value};
 ghost use Rattle.core_slots.specs.Entry.{tuple_key};
 ghost use Rattle.core_slots.specs.declared.entry.TupleEntry.{TupleEntry};
-ghost use Rattle.expression_text.specs.declared.operator.Operator.TheVariants.{Union, Intersection};
+ghost use Rattle.expression_text.specs.declared.operator.Operator.TheVariants.{Union, Intersection, Difference};
 ghost use Rattle.expression_evaluation.specs.Sums.{IsRefusedMeet, IsRefusedJoin, HasPartOf};
 ghost use Rattle.expression_evaluation.specs.Values.{sum_added, sum_rules};
 ghost use Rattle.expression_evaluation.specs.Running.{is_accepted, BothHaveSeed, AreRefused, IsCombination};
@@ -66,16 +66,13 @@ impl<A: Allocator + Clone + Drop, B: Allocator> SetFamily<A, B> for SumSets {
         seed: u64,
         lg_k: u8,
         operator: Operator,
-        first: &CompactTupleSketch<u64, A>,
-        second: &CompactTupleSketch<u64, A>,
+        first: CompactTupleSketch<u64, A>,
+        second: CompactTupleSketch<u64, A>,
     ) -> Result<CompactTupleSketch<u64, A>, Error> {
         match operator {
             Operator::Union => union_of(alloc, seed, lg_k, first, second),
             Operator::Intersection => intersection_of(alloc, seed, first, second),
-            Operator::Difference => {
-                let difference = TupleANotB::with_seed(seed)?;
-                difference.compute(alloc, first.as_view(), second.as_view(), true)
-            }
+            Operator::Difference => difference_of(alloc, seed, first, second),
         }
     }
 
@@ -190,18 +187,18 @@ fn union_of<A: Allocator + Clone + Drop>(
     alloc: A,
     seed: u64,
     lg_k: u8,
-    first: &CompactTupleSketch<u64, A>,
-    second: &CompactTupleSketch<u64, A>,
+    first: CompactTupleSketch<u64, A>,
+    second: CompactTupleSketch<u64, A>,
 ) -> Result<CompactTupleSketch<u64, A>, Error>
     requires settings { settings_refusal lg_k MAX_THETA seed ≡ None }
-    requires seeds { BothHaveSeed seed first.now second.now }
-    ensures value { IfOk result (IsCombination sum_rules lg_k seed Union first.now second.now) }
+    requires seeds { BothHaveSeed seed first second }
+    ensures value { IfOk result (IsCombination sum_rules lg_k seed Union first second) }
     ensures refused { IfErr result (IsMergeError (
-        AreRefused sum_rules (compact_value tuple_key first.now) (compact_value tuple_key second.now))) }
+        AreRefused sum_rules (compact_value tuple_key first) (compact_value tuple_key second))) }
 {
     let mut union = new_union(alloc, seed, lg_k)?;
-    unite_sketch(&mut union, first)?;
-    unite_sketch(&mut union, second)?;
+    unite_sketch(&mut union, &first)?;
+    unite_sketch(&mut union, &second)?;
     let sketch = union_sketch(&union)?;
     Ok(sketch)
 }
@@ -210,18 +207,34 @@ fn union_of<A: Allocator + Clone + Drop>(
 fn intersection_of<A: Allocator + Clone + Drop>(
     alloc: A,
     seed: u64,
-    first: &CompactTupleSketch<u64, A>,
-    second: &CompactTupleSketch<u64, A>,
+    first: CompactTupleSketch<u64, A>,
+    second: CompactTupleSketch<u64, A>,
 ) -> Result<CompactTupleSketch<u64, A>, Error>
     requires seeded { seed_refusal seed ≡ None }
-    requires seeds { BothHaveSeed seed first.now second.now }
-    ensures value { IfOk result (IsCombination sum_rules 0 seed Intersection first.now second.now) }
+    requires seeds { BothHaveSeed seed first second }
+    ensures value { IfOk result (IsCombination sum_rules 0 seed Intersection first second) }
     ensures refused { IfErr result (IsMergeError (
-        AreRefused sum_rules (compact_value tuple_key first.now) (compact_value tuple_key second.now))) }
+        AreRefused sum_rules (compact_value tuple_key first) (compact_value tuple_key second))) }
 {
     let mut intersection = new_meet(alloc, seed)?;
-    meet_sketch(&mut intersection, first)?;
-    meet_sketch(&mut intersection, second)?;
+    meet_sketch(&mut intersection, &first)?;
+    meet_sketch(&mut intersection, &second)?;
     let sketch = intersection_sketch(&intersection)?;
     Ok(sketch)
+}
+
+/// The difference of two sketches of this seed, ordered.
+fn difference_of<A: Allocator + Clone + Drop>(
+    alloc: A,
+    seed: u64,
+    first: CompactTupleSketch<u64, A>,
+    second: CompactTupleSketch<u64, A>,
+) -> Result<CompactTupleSketch<u64, A>, Error>
+    requires seeded { seed_refusal seed ≡ None }
+    requires seeds { BothHaveSeed seed first second }
+    ensures value { IfOk result (IsCombination sum_rules 0 seed Difference first second) }
+    ensures refused { Refuses result None true }
+{
+    let difference = TupleANotB::with_seed(seed)?;
+    difference.compute(alloc, first.as_view(), second.as_view(), true)
 }

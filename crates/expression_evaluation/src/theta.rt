@@ -10,11 +10,15 @@ ghost use Rattle.core_laws.specs.Settings.{settings_refusal};
 ghost use Rattle.core_laws.specs.declared.TheConstants.{MAX_THETA};
 ghost use Rattle.core_operators.specs.Intersection.{seed_refusal};
 ghost use Rattle.core_operators.specs.Union.{empty_union, union_value};
-ghost use Rattle.expression_text.specs.declared.operator.Operator.TheVariants.{Union, Intersection};
+ghost use Rattle.expression_text.specs.declared.operator.Operator.TheVariants.{Union, Intersection, Difference};
 ghost use Rattle.expression_evaluation.specs.Values.{hash_rules};
+ghost use Rattle.expression_evaluation.specs.OpenUnions.{IsOpenedBy};
+ghost use Rattle.expression_evaluation.specs.Contents.{contents_of};
 ghost use Rattle.expression_evaluation.specs.Running.{is_accepted, BothHaveSeed, IsCombination};
 
 use crate::family::SetFamily;
+use crate::open_union::OpenUnion;
+use crate::results::ThetaResult;
 use core_slots::ThetaEntry;
 use expression_text::Operator;
 use sketch_base::Error;
@@ -31,15 +35,16 @@ impl<A: Allocator + Clone + Drop, B: Allocator> SetFamily<A, B> for ThetaSets {
 
     type Named = CompactThetaSketch<B>;
 
-    type Sketch = CompactThetaSketch<A>;
+    type Sketch = ThetaResult<A>;
 
     ghost use Rattle.expression_evaluation.specs.Values.{hash_rules};
+    ghost use Rattle.expression_evaluation.specs.Contents.{contents_of};
 
     ghost rules = { hash_rules };
 
     ghost named = { λ s. s };
 
-    ghost listed = { λ s. s };
+    ghost listed = { λ s. contents_of s };
 
     fn is_accepted(&self, hash: u16, sketch: &CompactThetaSketch<B>) -> bool {
         sketch.is_empty() || hash == sketch.seed_hash()
@@ -50,10 +55,11 @@ impl<A: Allocator + Clone + Drop, B: Allocator> SetFamily<A, B> for ThetaSets {
         alloc: A,
         seed: u64,
         sketch: &CompactThetaSketch<B>,
-    ) -> Result<CompactThetaSketch<A>, Error> {
+    ) -> Result<ThetaResult<A>, Error> {
         let mut intersection = ThetaIntersection::with_seed(alloc, seed)?;
         meet_sketch(&mut intersection, sketch)?;
-        intersection_sketch(&intersection)
+        let ordered = intersection_sketch(&intersection)?;
+        Ok(ThetaResult::Made(ordered))
     }
 
     fn combine(
@@ -62,15 +68,18 @@ impl<A: Allocator + Clone + Drop, B: Allocator> SetFamily<A, B> for ThetaSets {
         seed: u64,
         lg_k: u8,
         operator: Operator,
-        first: &CompactThetaSketch<A>,
-        second: &CompactThetaSketch<A>,
-    ) -> Result<CompactThetaSketch<A>, Error> {
+        first: ThetaResult<A>,
+        second: ThetaResult<A>,
+    ) -> Result<ThetaResult<A>, Error> {
         match operator {
             Operator::Union => union_of(alloc, seed, lg_k, first, second),
-            Operator::Intersection => intersection_of(alloc, seed, first, second),
+            Operator::Intersection => {
+                let sketch = intersection_of(alloc, seed, first, second)?;
+                Ok(ThetaResult::Made(sketch))
+            }
             Operator::Difference => {
-                let difference = ThetaANotB::with_seed(seed)?;
-                difference.compute(alloc, first.as_view(), second.as_view(), true)
+                let sketch = difference_of(alloc, seed, first, second)?;
+                Ok(ThetaResult::Made(sketch))
             }
         }
     }
@@ -139,39 +148,89 @@ fn unite_sketch<A: Allocator + Clone, B: Allocator>(
     Ok(())
 }
 
-/// The union of two sketches of this seed, with 2^`lg_k` nominal entries, ordered.
+/// A union of 2^`lg_k` nominal entries to which a result of this seed was added: an open union of as many nominal
+/// entries itself, which takes more.
+fn opened<A: Allocator + Clone + Drop>(
+    alloc: A,
+    seed: u64,
+    lg_k: u8,
+    first: ThetaResult<A>,
+) -> Result<ThetaUnion<A>, Error>
+    requires settings { settings_refusal lg_k MAX_THETA seed ≡ None }
+    requires seeded { (contents_of first).seed_hash ≡ seed_hash seed }
+    ensures opened { IfOk result (λ u. IsOpenedBy lg_k (seed_hash seed) (compact_value hash_key (contents_of first)) u) }
+    ensures refused { Refuses result None true }
+{
+    let sketch = match first {
+        ThetaResult::Made(sketch) => sketch,
+        ThetaResult::Open(open) => {
+            if open.lg_k == lg_k {
+                return Ok(open.union);
+            }
+            open.union.to_sketch(true)?
+        }
+    };
+    let mut union = new_union(alloc, seed, lg_k)?;
+    unite_sketch(&mut union, &sketch)?;
+    Ok(union)
+}
+
+/// The union of two results of this seed, with 2^`lg_k` nominal entries. It stays open.
 fn union_of<A: Allocator + Clone + Drop>(
     alloc: A,
     seed: u64,
     lg_k: u8,
-    first: &CompactThetaSketch<A>,
-    second: &CompactThetaSketch<A>,
-) -> Result<CompactThetaSketch<A>, Error>
+    first: ThetaResult<A>,
+    second: ThetaResult<A>,
+) -> Result<ThetaResult<A>, Error>
     requires settings { settings_refusal lg_k MAX_THETA seed ≡ None }
-    requires seeds { BothHaveSeed seed first.now second.now }
-    ensures value { IfOk result (IsCombination hash_rules lg_k seed Union first.now second.now) }
+    requires seeds { BothHaveSeed seed (contents_of first) (contents_of second) }
+    ensures value { IfOk result (λ s.
+        IsCombination hash_rules lg_k seed Union (contents_of first) (contents_of second) (contents_of s)) }
     ensures refused { Refuses result None true }
 {
-    let mut union = new_union(alloc, seed, lg_k)?;
-    unite_sketch(&mut union, first)?;
-    unite_sketch(&mut union, second)?;
-    union.to_sketch(true)
+    let mut union = opened(alloc, seed, lg_k, first)?;
+    let sketch = second.into_sketch()?;
+    unite_sketch(&mut union, &sketch)?;
+    Ok(ThetaResult::Open(OpenUnion { union, lg_k }))
 }
 
-/// The intersection of two sketches of this seed, ordered.
+/// The intersection of two results of this seed, ordered.
 fn intersection_of<A: Allocator + Clone + Drop>(
     alloc: A,
     seed: u64,
-    first: &CompactThetaSketch<A>,
-    second: &CompactThetaSketch<A>,
+    first: ThetaResult<A>,
+    second: ThetaResult<A>,
 ) -> Result<CompactThetaSketch<A>, Error>
     requires seeded { seed_refusal seed ≡ None }
-    requires seeds { BothHaveSeed seed first.now second.now }
-    ensures value { IfOk result (IsCombination hash_rules 0 seed Intersection first.now second.now) }
+    requires seeds { BothHaveSeed seed (contents_of first) (contents_of second) }
+    ensures value { IfOk result (λ s.
+        IsCombination hash_rules 0 seed Intersection (contents_of first) (contents_of second) s) }
     ensures refused { Refuses result None true }
 {
+    let one = first.into_sketch()?;
+    let two = second.into_sketch()?;
     let mut intersection = ThetaIntersection::with_seed(alloc, seed)?;
-    meet_sketch(&mut intersection, first)?;
-    meet_sketch(&mut intersection, second)?;
+    meet_sketch(&mut intersection, &one)?;
+    meet_sketch(&mut intersection, &two)?;
     intersection_sketch(&intersection)
+}
+
+/// The difference of two results of this seed, ordered.
+fn difference_of<A: Allocator + Clone + Drop>(
+    alloc: A,
+    seed: u64,
+    first: ThetaResult<A>,
+    second: ThetaResult<A>,
+) -> Result<CompactThetaSketch<A>, Error>
+    requires seeded { seed_refusal seed ≡ None }
+    requires seeds { BothHaveSeed seed (contents_of first) (contents_of second) }
+    ensures value { IfOk result (λ s.
+        IsCombination hash_rules 0 seed Difference (contents_of first) (contents_of second) s) }
+    ensures refused { Refuses result None true }
+{
+    let one = first.into_sketch()?;
+    let two = second.into_sketch()?;
+    let difference = ThetaANotB::with_seed(seed)?;
+    difference.compute(alloc, one.as_view(), two.as_view(), true)
 }

@@ -17,8 +17,8 @@ returns-clause-value g c =
     let start = c.in_ok-union.union.state in
     let one = c.unite_sketch.new.union.state in
     let two = c.unite_sketch-2.new.union.state in
-    let a = compact_value tuple_key c.args.first.now in
-    let b = compact_value tuple_key c.args.second.now in
+    let a = compact_value tuple_key c.args.first in
+    let b = compact_value tuple_key c.args.second in
     let made = c.in_ok-union.ensures.made in
     let made_one = c.in_ok-unite_sketch.ensures.made in
     let first = one_united tuple_key sum_added (λ x y same. same) lg h start one made made_one a (c.in_ok-unite_sketch.ensures.united [] (nothing_united tuple_key sum_added (λ x y same. same) lg h start made)) in
@@ -30,7 +30,7 @@ pub returns-in_err-unite_sketch-clause-refused : goal.returns-in_err-unite_sketc
 returns-in_err-unite_sketch-clause-refused g c =
     let p = err_from_is_err_and c.from_residual-in_err-unite_sketch.result c.from_residual-in_err-unite_sketch.ensures.1 in
     let start = c.in_ok-union.union.state in
-    let a = compact_value tuple_key c.args.first.now in
+    let a = compact_value tuple_key c.args.first in
     let none = ap (λ u. u.content.entries) c.in_ok-union.ensures.made in
     rw (p.1, p.2) (merge_error c.in_err-unite_sketch.field-0.0 (λ refused. absurd (refused_none start a none refused)) c.in_err-unite_sketch.ensures.refused)
 
@@ -38,7 +38,7 @@ pub returns-in_err-unite_sketch-2-clause-refused : goal.returns-in_err-unite_ske
 returns-in_err-unite_sketch-2-clause-refused g c =
     let p = err_from_is_err_and c.from_residual-in_err-unite_sketch-2.result c.from_residual-in_err-unite_sketch-2.ensures.1 in
     let one = c.unite_sketch.new.union.state in
-    let a = compact_value tuple_key c.args.first.now in
-    let b = compact_value tuple_key c.args.second.now in
+    let a = compact_value tuple_key c.args.first in
+    let b = compact_value tuple_key c.args.second in
     let none = ap (λ u. u.content.entries) c.in_ok-union.ensures.made in
     rw (p.1, p.2) (merge_error c.in_err-unite_sketch-2.field-0.0 (λ refused. refused_part one a b (c.in_ok-unite_sketch.ensures.part none) refused) c.in_err-unite_sketch-2.ensures.refused)
