@@ -219,9 +219,9 @@ Read:
                           N
   -d, --separator C       the byte between fields, with --field; default a tab
       --keys              the files have lines, not images: sketch each with 2^N hashes
-      --sums              read images of sums and print the total, as sum does. + and & add the
-                          sums of a key, - keeps the sums on its left. Not with --bounds or
-                          --keys
+      --sums              read images of sums and print the total, an estimate if keys were
+                          dropped. + and & add the sums of a key, - keeps the sums on its left.
+                          Not with --bounds or --keys
       --hex               read and write images in hexadecimal, one line per file
   -C DIR                  names of files are relative to the folder DIR
 
