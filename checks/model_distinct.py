@@ -25,7 +25,7 @@ M64 = 2**64 - 1
 
 LINES = "-C --lg-k --field --separator --seed --seed-file --files0-from --part --progress "
 OPTIONS = {
-    "count": LINES + "--by --sort --bounds --human --tsv --json",
+    "count": LINES + "--by --sort --min --top --bounds --human --tsv --json",
     "sketch": LINES + "--by --value --visits --hex --output --output-dir --force",
     "union": "-C --lg-k --seed --seed-file --files0-from --expect --hex --groups --sums --output",
     "meet": "-C --seed --seed-file --files0-from --expect --hex --output",
@@ -44,7 +44,7 @@ FAMILIES = (
     "tuple sketches,frequency sketches,reservoirs,unions of reservoirs,VarOpt sketches,unions of VarOpt sketches,KLL sketches,"
     "CPC sketches,REQ sketches,count-min sketches,EBPPS sketches,t-digests,Bloom filters"
 ).split(",")
-RANGES = {"--lg-k": (4, 26), "--seed": (0, M64)} | {it: (1, 2**32 - 1) for it in ("--field", "--by", "--value", "--expect")}
+RANGES = {"--lg-k": (4, 26), "--seed": (0, M64), "--min": (1, M64), "--top": (1, M64)} | {it: (1, 2**32 - 1) for it in ("--field", "--by", "--value", "--expect")}
 
 
 class Fault(Exception):
@@ -648,8 +648,8 @@ def read_arguments(words):
         raise Fault("--by without --hex and without --output-dir")
     if options.get("--human") and options["form"]:
         raise Fault("--human with --tsv or --json")
-    if "--sort" in options and "--by" not in options:
-        raise Fault("--sort without --by")
+    if {"--sort", "--min", "--top"} & options.keys() and "--by" not in options:
+        raise Fault("--sort, --min or --top without --by")
     if {"--part", "--sums"} <= options.keys():
         raise Fault("--part and --sums")
     if "--groups" in options and ("--hex" not in options or "--expect" in options):
@@ -663,7 +663,7 @@ def read_arguments(words):
     read = set(names_of(steps_of(words[0]))) if command == "eval" else words
     if [options["seed"][1], options.get("--files0-from"), *read].count("-") > 1:
         raise Fault("standard input twice")
-    for option in ("--field", "--by", "--sort", "--bounds", "--hex", "--groups", "--sums", "--keys", "--output", "--output-dir", "--expect", "--part"):
+    for option in ("--field", "--by", "--sort", "--min", "--top", "--bounds", "--hex", "--groups", "--sums", "--keys", "--output", "--output-dir", "--expect", "--part"):
         options.setdefault(option)
     options["--separator"] = options.get("--separator", "\t").encode()
     options["dirs"] = dirs + ([options["-C"]] if "-C" in options else [])
@@ -912,6 +912,7 @@ def run(words, files, messages):
             reports = [(name, report_of(it, z)) for name, it in rows]
             if options["--sort"] == "estimate":
                 reports.sort(key=lambda row: -row[1]["estimate"])
+            reports = [row for row in reports if row[1]["estimate"] >= (options["--min"] or 1)][: options["--top"]]
             return printed_groups(reports, options)
         images = [(name, image_of(it, seed_hash(seed))) for name, it in rows]
         if options["--output-dir"]:

@@ -21,7 +21,7 @@ use Rattle.distinct_arguments.specs.declared.options.Options.{Options}
 use Rattle.distinct_arguments.specs.declared.table.OptionName.{OptionName}
 use Rattle.distinct_arguments.specs.declared.table.OptionName.TheVariants.{Field, Separator, Value, Visits, Keys, Sums}
 use Rattle.distinct_arguments.specs.declared.table.OptionName.TheVariants.{Hex, FileList, Part, Dir, LgK, Seed, SeedFile, By}
-use Rattle.distinct_arguments.specs.declared.table.OptionName.TheVariants.{Groups, Expect, Sort, Progress, Bounds, Tsv}
+use Rattle.distinct_arguments.specs.declared.table.OptionName.TheVariants.{Groups, Expect, Sort, Min, Top, Progress, Bounds, Tsv}
 use Rattle.distinct_arguments.specs.declared.table.OptionName.TheVariants.{Json, Human, OutputDir, Output, Force, Quiet}
 use Rattle.distinct_arguments.specs.declared.table.Kind.{Kind}
 use Rattle.distinct_arguments.specs.declared.table.Kind.TheVariants as kind
@@ -39,6 +39,8 @@ pub record OptionValues : Type 0 where
   pub separator : Option ℕ
   pub by : Option ℕ
   pub sort : Option Order
+  pub least : Option ℕ
+  pub most : Option ℕ
   pub value : Option ℕ
   pub visits : Bool
   pub groups : Bool
@@ -73,6 +75,8 @@ default_options command = record {
   separator = None;
   by = None;
   sort = None;
+  least = None;
+  most = None;
   value = None;
   visits = false;
   groups = false;
@@ -161,6 +165,8 @@ is_given options By = is_some options.by
 is_given options Groups = options.groups
 is_given options Expect = is_some options.expected
 is_given options Sort = is_some options.sort
+is_given options Min = is_some options.least
+is_given options Top = is_some options.most
 is_given options Progress = options.progress
 is_given options Bounds = is_some options.bounds
 is_given options Tsv = is_tsv options.form
@@ -193,6 +199,8 @@ set_number options Field n = record options { field = Some n }
 set_number options By n = record options { by = Some n }
 set_number options Value n = record options { value = Some n }
 set_number options Expect n = record options { expected = Some n }
+set_number options Min n = record options { least = Some n }
+set_number options Top n = record options { most = Some n }
 set_number options _ n = options
 
 -- the options after an option whose value may be any text
@@ -268,6 +276,8 @@ options_of o = record {
   separator = o.separator;
   by = o.by;
   sort = o.sort;
+  least = o.least;
+  most = o.most;
   value = o.value;
   visits = o.visits;
   groups = o.groups;

@@ -55,6 +55,10 @@ Count:
 Print:
       --sort ORDER        with --by, the order of groups: name, the default, or estimate, the
                           greatest first and equal ones by name
+      --min N             with --by, print only groups whose estimate is at least N; N from 1 to
+                          2^64 - 1
+      --top N             with --by, print only the first N groups, in the order of --sort, of
+                          those that --min leaves; N from 1 to 2^64 - 1
       --progress          about once a second, report on standard error how many lines and bytes
                           were read, and the estimate or the number of groups so far
       --bounds[=Z]        print three numbers: the estimate, its lower and its upper bound, for
@@ -66,8 +70,8 @@ Print:
   -q, --quiet             print no remarks and warnings on standard error
 
 Examples:
-  distinct count -f2 -d' ' access.log          how many values the second field has
-  distinct count --by 1 --sort estimate *.log  the largest groups first
+  distinct count -f2 -d' ' access.log                  how many values field 2 has
+  distinct count --by 1 --sort estimate --top 9 a.log  the nine largest groups
 ";
 
 const SKETCH: &str = "\

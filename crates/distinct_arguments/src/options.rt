@@ -43,6 +43,10 @@ pub struct Options<'a> {
     pub by: Option<u32>,
     /// The order in which groups are printed; by name if `None`.
     pub sort: Option<Order>,
+    /// The least estimate of a group that is printed, from 1 if it was read from arguments; none if `None`.
+    pub least: Option<u64>,
+    /// How many groups are printed at most, from 1 if it was read from arguments; all if `None`.
+    pub most: Option<u64>,
     /// The number of the field that has the number of a line, from 1, or `None` if no numbers are read.
     pub value: Option<u32>,
     /// Whether each line adds one to a sum.

@@ -48,6 +48,8 @@ impl<'a> Options<'a> {
             separator: None,
             by: None,
             sort: None,
+            least: None,
+            most: None,
             value: None,
             visits: false,
             groups: false,
@@ -123,6 +125,8 @@ pub(crate) fn is_given(options: &Options<'_>, option: OptionName) -> bool
         OptionName::Groups => options.groups,
         OptionName::Expect => options.expected.is_some(),
         OptionName::Sort => options.sort.is_some(),
+        OptionName::Min => options.least.is_some(),
+        OptionName::Top => options.most.is_some(),
         OptionName::Progress => options.progress,
         OptionName::Bounds => options.bounds.is_some(),
         OptionName::Tsv => options.form == Form::Tsv,
@@ -211,6 +215,14 @@ fn set_number<'a>(options: Options<'a>, option: OptionName, number: u64) -> Opti
         }
         OptionName::Expect => {
             changed.expected = Some(number);
+            changed
+        }
+        OptionName::Min => {
+            changed.least = Some(number);
+            changed
+        }
+        OptionName::Top => {
+            changed.most = Some(number);
             changed
         }
         _ => changed,

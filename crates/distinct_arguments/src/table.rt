@@ -30,6 +30,8 @@ pub enum OptionName {
     Groups,
     Expect,
     Sort,
+    Min,
+    Top,
     Progress,
     Bounds,
     Tsv,
@@ -96,7 +98,7 @@ const ALL: &[&str] = &[
 const MOST: u64 = 4294967295;
 
 /// The options: what is read, how it is counted, and what is printed. If several rules are broken, the first counts.
-pub(crate) const OPTIONS: [Row; 26] = [
+pub(crate) const OPTIONS: [Row; 28] = [
     (
         OptionName::Field,
         "--field",
@@ -273,6 +275,30 @@ pub(crate) const OPTIONS: [Row; 26] = [
         &[(ALL, Rule::Needs(OptionName::By), ", whose groups it orders")],
     ),
     (
+        OptionName::Min,
+        "--min",
+        None,
+        Kind::Number(1, u64::MAX),
+        &["count"],
+        &[(
+            ALL,
+            Rule::Needs(OptionName::By),
+            ", whose smaller groups it leaves out",
+        )],
+    ),
+    (
+        OptionName::Top,
+        "--top",
+        None,
+        Kind::Number(1, u64::MAX),
+        &["count"],
+        &[(
+            ALL,
+            Rule::Needs(OptionName::By),
+            ", whose first groups it prints",
+        )],
+    ),
+    (
         OptionName::Progress,
         "--progress",
         None,
@@ -350,7 +376,7 @@ pub(crate) const OPTIONS: [Row; 26] = [
 ];
 
 /// The rows of the table.
-pub(crate) fn all_rows() -> [Row; 26]
+pub(crate) fn all_rows() -> [Row; 28]
     ensures { map row_in result ≡ rows }
 {
     OPTIONS

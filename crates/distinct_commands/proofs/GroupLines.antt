@@ -1,10 +1,19 @@
 -- The lines of groups, one after another.
-use Rattle.std.proofs.Common.{ℕ, ◌≡◌, List, [], ◌∷◌, ◌++◌, map, refl, sym, ap, ◌∙◌, append_assoc, append-nil}
+use Rattle.std.proofs.Common.{ℕ, ◌≡◌, Bool, true, false, cond, List, [], ◌∷◌, ◌++◌, map, refl, sym, ap, ◌∙◌, append_assoc, append-nil}
 use Rattle.std.specs.Prelude.{flat_map}
+use Rattle.std.specs.List.{filter}
 use Rattle.std.proofs.lemmas.List.{map-append}
 use Rattle.std.proofs.lemmas.List.Elements.{All-nil, All-push}
-use Rattle.keys_groups.specs.Ranked.{HasTexts}
-use Rattle.keys_groups.specs.declared.ranked.Ranked.{Ranked}
+use Rattle.distinct_commands.specs.Ranked.{HasTexts}
+use Rattle.distinct_commands.specs.declared.ranked.Ranked.{Ranked}
+
+-- the first name of some is kept, or isn't
+module _ (p : List ℕ → Bool) where
+  pub name_kept : (names others : List (List ℕ)) (name : List ℕ) → names ≡ name ∷ others → p name ≡ true → filter p names ≡ name ∷ filter p others
+  name_kept names others name parted kept = ap (filter p) parted ∙ ap (λ b. cond b (name ∷ filter p others) (filter p others)) kept
+
+  pub name_dropped : (names others : List (List ℕ)) (name : List ℕ) → names ≡ name ∷ others → p name ≡ false → filter p names ≡ filter p others
+  name_dropped names others name parted dropped = ap (filter p) parted ∙ ap (λ b. cond b (name ∷ filter p others) (filter p others)) dropped
 
 module _ (line_of : List ℕ → List ℕ) where
   -- one line more

@@ -1,5 +1,6 @@
 -- What `count` prints and `sketch` writes of groups of lines.
-use Rattle.std.specs.Prelude.{ℕ, ◌≡◌, ◌++◌, Bool, true, false, List, [], Some, is_some, unwrap_or, codes, flat_map}
+use Rattle.std.specs.Prelude.{ℕ, ◌≡◌, ◌++◌, Bool, true, false, List, [], ◌∷◌, Option, Some, None, unwrap_or, codes, flat_map}
+use Rattle.std.specs.List.{filter}
 use Rattle.std.specs.Str.Lossy.{utf8_lossy}
 use Rattle.core_compact.specs.CompactState.{Compact}
 use Rattle.theta_sketches.specs.Image.{written}
@@ -7,16 +8,18 @@ use Rattle.keys_reports.specs.declared.report.Report.{Report}
 use Rattle.keys_reports.specs.Forms.{json_line, tsv_row}
 use Rattle.keys_lines.specs.Lines.{lines_of_all}
 use Rattle.keys_lines.specs.declared.key.Key.{Key}
-use Rattle.keys_groups.specs.Groups.{AreGroups, group_sketch}
-use Rattle.keys_groups.specs.Ranked.{AreRanked}
+use Rattle.keys_groups.specs.Groups.{AreGroups, AreLeft, group_sketch}
 use Rattle.keys_groups.specs.United.{image_line}
+use Rattle.keys_groups.specs.declared.groups.Group.{Group}
 use Rattle.keys_groups.specs.declared.groups.Grouping.{Grouping}
+use Rattle.keys_groups.specs.declared.groups.Groups.{Groups}
 use Rattle.distinct_arguments.specs.Settings.{OptionValues}
 use Rattle.distinct_arguments.specs.declared.options.Order.{Order}
 use Rattle.distinct_arguments.specs.declared.options.Order.TheVariants.{Name, Estimate}
 use Rattle.distinct_arguments.specs.declared.options.Form.{Form}
 use Rattle.distinct_arguments.specs.declared.options.Form.TheVariants.{Plain, Tsv, Json}
 use Rattle.distinct_inputs.specs.Failures.{chosen_hashing}
+use Rattle.distinct_commands.specs.Ranked.{AreRanked, reaches, first_items}
 use Rattle.distinct_commands.specs.Texts.{counted_line, report_by, head_of}
 
 -- how options group lines by a key
@@ -52,6 +55,20 @@ groups_head false options = head_of options.form
 abbrev pub group_estimate : OptionValues → Grouping → (lines : List (List ℕ)) → (name : List ℕ) → ℕ
 group_estimate options grouping lines name = (report_by options (group_sketch grouping lines name)).estimate
 
+-- the names of the groups that are counted: those whose estimate is at least that of `--min`, if there is one
+abbrev pub counted_names : OptionValues → Grouping → (lines names : List (List ℕ)) → List (List ℕ)
+counted_names options grouping lines names = filter (λ name. reaches options.least (group_estimate options grouping lines name)) names
+
+-- the first group of those that were left and are counted, and the others that are counted are left now; there is none
+-- only if none was left
+abbrev pub IsNextCounted : OptionValues → Grouping → (lines names : List (List ℕ)) → (new : Groups) → Option Group → Type 0
+IsNextCounted options grouping lines names new None = counted_names options grouping lines names ≡ []
+IsNextCounted options grouping lines names new (Some group) =
+    (others : List (List ℕ))
+    × (counted_names options grouping lines names ≡ group.name.items ∷ counted_names options grouping lines others)
+    × (group.sketch ≡ group_sketch grouping lines group.name.items)
+    × AreLeft grouping lines others new
+
 -- the order of groups: by name, if none is chosen
 abbrev pub chosen_order : OptionValues → Order
 chosen_order options = unwrap_or options.sort Name
@@ -61,13 +78,13 @@ abbrev pub AreOrdered : Order → (estimate : List ℕ → ℕ) → (names order
 AreOrdered Estimate estimate names ordered = AreRanked estimate names ordered
 AreOrdered Name estimate names ordered = ordered ≡ names
 
--- what is printed of the lines of texts by groups: a line of each group of these lines, in the order that is chosen,
--- after the head
+-- what is printed of the lines of texts by groups, after the head: of the groups of these lines those that are counted
+-- are put into the order that is chosen, and each of the first ones, as many as `--top` says, or of all has a line
 abbrev pub IsGroupedText : (images : Bool) → OptionValues → (seed : ℕ) → (by : Key) → (texts : List (List ℕ)) → List ℕ → Type 0
 IsGroupedText images options seed by texts out =
     let lines = lines_of_all texts in
     let grouping = grouping_of options seed by in
     (names ordered : List (List ℕ))
     × AreGroups by lines names
-    × AreOrdered (chosen_order options) (group_estimate options grouping lines) names ordered
-    × (out ≡ groups_head images options ++ groups_text images options grouping lines ordered)
+    × AreOrdered (chosen_order options) (group_estimate options grouping lines) (counted_names options grouping lines names) ordered
+    × (out ≡ groups_head images options ++ groups_text images options grouping lines (first_items options.most ordered))

@@ -3,6 +3,7 @@ pub mod EvalSums
 pub mod Eval
 pub mod Visits
 pub mod Sums
+pub mod Ranked
 pub mod Groups
 pub mod Answers
 pub mod Operands

@@ -7,22 +7,21 @@ ghost use Rattle.keys_groups.specs.declared.groups.Grouping.{Grouping};
 ghost use Rattle.distinct_arguments.specs.Faults.{options_of};
 ghost use Rattle.distinct_messages.specs.Failures.{UnreadableIf};
 ghost use Rattle.distinct_inputs.specs.Failures.{IsOfReading};
-ghost use Rattle.keys_groups.specs.Ranked.{AreRanked};
 ghost use Rattle.keys_groups.specs.Files.{AreFilesOf};
 ghost use Rattle.distinct_commands.specs.Groups.{grouping_of, group_text, group_line, groups_text, groups_head};
-ghost use Rattle.distinct_commands.specs.Groups.{group_estimate, chosen_order, AreOrdered};
+ghost use Rattle.distinct_commands.specs.Groups.{group_estimate, chosen_order, counted_names, AreOrdered, IsNextCounted};
+ghost use Rattle.distinct_commands.specs.Ranked.{AreRanked, first_items, reaches};
 ghost use Rattle.distinct_commands.specs.Texts.{report_by};
 ghost use Rattle.distinct_messages.specs.declared.failure.Failure.TheVariants as failure;
 
 use crate::commands::image_to_put;
 use crate::job::Job;
+use crate::ranked::{Ranked, first_ranked_text, is_full, one_less};
 use crate::show::{chosen_deviations, counted_line, head_of};
 use distinct_arguments::{Form, Options, Order};
 use distinct_inputs::Inputs;
 use distinct_messages::{Console, Failure, out_of_memory};
-use keys_groups::{
-    Group, GroupFile, Grouping, Groups, Ranked, files_of, group_sources, image_line, ranked_text,
-};
+use keys_groups::{Group, GroupFile, Grouping, Groups, files_of, group_sources, image_line};
 use keys_lines::{Hashing, Key};
 use keys_reports::{json_line, report_of, tsv_row};
 use keys_sketches::{ReadError, Sources};
@@ -59,7 +58,21 @@ fn group_text(
     }
 }
 
-/// How groups are printed: each by its image, or by its count in the form that options choose.
+/// Whether a group with this sketch is printed: whether its estimate is at least that of `--min`, if there is one.
+fn is_counted(options: &Options<'_>, sketch: &CompactThetaSketch) -> bool
+    ensures { result ≡ reaches (options_of options.now).least (report_by (options_of options.now) sketch.now).estimate }
+{
+    match options.least {
+        Some(least) => {
+            let report = report_of(sketch, chosen_deviations(options));
+            u128::from(least) <= report.estimate
+        }
+        None => true,
+    }
+}
+
+/// How groups are printed: each by its image, or by its count in the form that options choose. Of those whose estimate
+/// is at least that of `--min` the first ones are printed, as many as `--top` says, or all.
 #[derive(Clone, Copy)]
 pub struct GroupPrinter<'a> {
     pub alloc: Global,
@@ -81,23 +94,52 @@ impl<'a> GroupPrinter<'a> {
         Ok(image_line(self.alloc, name, image.as_slice())?)
     }
 
+    /// Takes out the groups that are left up to the first whose estimate is at least that of `--min`, and returns it,
+    /// or `None` if there is none. It fails if memory is refused.
+    fn next_counted(self, groups: &mut Groups) -> Result<Option<Group>, Failure>
+        ensures next { (grouping : Grouping) (lines names : List (List ℕ))
+            → AreLeft grouping lines names groups.old
+            → IfOk result (IsNextCounted (options_of self.entry.options.now) grouping lines names groups.new) }
+        ensures memory { IfErr result (λ f. f ≡ failure.Memory) }
+    {
+        for _ in 0..u64::MAX {
+            match groups.next_group() {
+                Ok(Some(group)) => {
+                    if is_counted(self.options, &group.sketch) {
+                        return Ok(Some(group));
+                    }
+                }
+                Ok(None) => return Ok(None),
+                Err(error) => return Err(out_of_memory(error)),
+            }
+        }
+        Err(Failure::Memory)
+    }
+
     /// The lines of groups, one after another. It fails if memory is refused.
     fn groups_text(self, groups: &mut Groups) -> Result<Vec<u8>, Failure>
         ensures printed { (grouping : Grouping) (lines names : List (List ℕ))
             → AreLeft grouping lines names groups.old
             → IfOk result (λ v.
-            v.items ≡ groups_text self.entry.images (options_of self.entry.options.now) grouping lines names) }
+            v.items ≡ groups_text self.entry.images (options_of self.entry.options.now) grouping lines
+            (first_items (options_of self.entry.options.now).most
+            (counted_names (options_of self.entry.options.now) grouping lines names))) }
         ensures memory { IfErr result (λ f. f ≡ failure.Memory) }
     {
         let mut printed = Vec::new(self.alloc);
+        let mut room = self.options.most;
         for _ in 0..u64::MAX {
-            match groups.next_group() {
+            if is_full(room) {
+                return Ok(printed);
+            }
+            match self.next_counted(groups) {
                 Ok(Some(group)) => {
                     let line = self.line(group.name.as_slice(), &group.sketch)?;
                     printed.extend_from_slice(line.as_slice())?;
+                    room = one_less(room);
                 }
                 Ok(None) => return Ok(printed),
-                Err(error) => return Err(out_of_memory(error)),
+                Err(failure) => return Err(failure),
             }
         }
         Err(Failure::Memory)
@@ -128,19 +170,21 @@ impl<'a> GroupPrinter<'a> {
         ensures printed { (grouping : Grouping) (lines names : List (List ℕ))
             → AreLeft grouping lines names groups.old
             → IfOk result (λ v. (ordered : List (List ℕ))
-            × AreRanked (group_estimate (options_of self.entry.options.now) grouping lines) names ordered
-            × (v.items ≡ groups_text self.entry.images (options_of self.entry.options.now) grouping lines ordered)) }
+            × AreRanked (group_estimate (options_of self.entry.options.now) grouping lines)
+            (counted_names (options_of self.entry.options.now) grouping lines names) ordered
+            × (v.items ≡ groups_text self.entry.images (options_of self.entry.options.now) grouping lines
+            (first_items (options_of self.entry.options.now).most ordered))) }
         ensures memory { IfErr result (λ f. f ≡ failure.Memory) }
     {
         let mut ranked = Vec::new(self.alloc);
         for _ in 0..u64::MAX {
-            match groups.next_group() {
+            match self.next_counted(groups) {
                 Ok(Some(group)) => {
                     let one = self.ranked(group)?;
                     ranked.push(one)?;
                 }
-                Ok(None) => return Ok(ranked_text(self.alloc, ranked)?),
-                Err(error) => return Err(out_of_memory(error)),
+                Ok(None) => return Ok(first_ranked_text(self.alloc, ranked, self.options.most)?),
+                Err(failure) => return Err(failure),
             }
         }
         Err(Failure::Memory)
@@ -152,8 +196,10 @@ impl<'a> GroupPrinter<'a> {
             → AreLeft grouping lines names groups.old
             → IfOk result (λ v. (ordered : List (List ℕ))
             × AreOrdered (chosen_order (options_of self.entry.options.now))
-            (group_estimate (options_of self.entry.options.now) grouping lines) names ordered
-            × (v.items ≡ groups_text self.entry.images (options_of self.entry.options.now) grouping lines ordered)) }
+            (group_estimate (options_of self.entry.options.now) grouping lines)
+            (counted_names (options_of self.entry.options.now) grouping lines names) ordered
+            × (v.items ≡ groups_text self.entry.images (options_of self.entry.options.now) grouping lines
+            (first_items (options_of self.entry.options.now).most ordered))) }
         ensures memory { IfErr result (λ f. f ≡ failure.Memory) }
     {
         match self.options.sort.unwrap_or(Order::Name) {
@@ -181,9 +227,11 @@ impl<'a> GroupPrinter<'a> {
             → AreLeft grouping lines names groups.old
             → IfOk result (λ v. (ordered : List (List ℕ))
             × AreOrdered (chosen_order (options_of self.entry.options.now))
-            (group_estimate (options_of self.entry.options.now) grouping lines) names ordered
+            (group_estimate (options_of self.entry.options.now) grouping lines)
+            (counted_names (options_of self.entry.options.now) grouping lines names) ordered
             × (v.items ≡ groups_head self.entry.images (options_of self.entry.options.now)
-            ++ groups_text self.entry.images (options_of self.entry.options.now) grouping lines ordered)) }
+            ++ groups_text self.entry.images (options_of self.entry.options.now) grouping lines
+            (first_items (options_of self.entry.options.now).most ordered))) }
         ensures memory { IfErr result (λ f. f ≡ failure.Memory) }
     {
         let head = self.head()?;

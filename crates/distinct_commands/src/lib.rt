@@ -19,6 +19,7 @@ mod eval_sums;
 mod expression;
 mod groups;
 mod job;
+mod ranked;
 mod show;
 mod sums;
 mod united;

@@ -49,6 +49,8 @@ fn put_numbers(
     }
     put_value(text, "field", options.field)?;
     put_value(text, "by", options.by)?;
+    put_value(text, "least", options.least)?;
+    put_value(text, "most", options.most)?;
     put_value(text, "value", options.value)?;
     put_value(text, "separator", options.separator)?;
     put_value(text, "expected", options.expected)
