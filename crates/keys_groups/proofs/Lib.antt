@@ -6,7 +6,6 @@ pub mod Marks
 pub mod NamedEntries
 pub mod ReadInTurn
 pub mod TakenLines
-pub mod Ranking
 pub mod LastTabs
 pub mod ImagesInGroups
 pub mod UnitedInTurn

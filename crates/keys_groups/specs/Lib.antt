@@ -2,7 +2,6 @@ pub mod Names
 pub mod Groups
 pub mod States
 pub mod Reading
-pub mod Ranked
 pub mod Tabs
 pub mod United
 pub mod Files

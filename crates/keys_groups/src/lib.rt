@@ -22,7 +22,6 @@ mod groups;
 pub mod laws;
 mod names;
 mod order;
-mod ranked;
 mod reading;
 mod tabs;
 mod united;
@@ -30,7 +29,6 @@ mod uniting;
 
 pub use files::{GroupFile, file_name, files_of};
 pub use groups::{Group, Grouping, Groups};
-pub use ranked::{Ranked, ranked_text};
 pub use reading::{GroupWatch, group_sources};
 pub use united::{LineFlaw, UnitedGroup, UnitedGroups, image_line};
 pub use uniting::{UniteError, unite_groups, united_text};
