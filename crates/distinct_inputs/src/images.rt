@@ -14,13 +14,13 @@ ghost use Rattle.distinct_inputs.specs.Failures.{ReportsNoSketch, ReportsPastUni
 use crate::inputs::Inputs;
 use distinct_messages::{Coarser, Failure};
 use keys_sketches::{
-    Flaw, ImageFlaw, Sources, entry_count, flaw_of, image_length, read_hex, sums_count,
+    Flaw, ImageFlaw, Sources, entry_count, flaw_of, image_length, read_hex, read_line, sums_count,
     sums_flaw_of, sums_length,
 };
 use sketch_base::{ErrorKind as KindOfError, compute_seed_hash};
 use std::alloc::Global;
 use std::io;
-use std::io::{BufRead, BufReader, Cursor, ErrorKind, Read};
+use std::io::{BufReader, Cursor, ErrorKind, Read};
 
 /// The hash of a seed; 0 if no image can be read under the seed.
 fn hash_of_seed(seed: u64) -> u16
@@ -319,7 +319,7 @@ impl<'a, S: Sources> Images<'a, S> {
             return Ok(None);
         };
         let mut line = Vec::new(self.alloc);
-        let count = reader.read_until(b'\n', &mut line)?;
+        let count = read_line(reader, &mut line)?;
         if count == 0 {
             self.open = None;
             if self.line == 0 {

@@ -13,11 +13,11 @@ ghost use Rattle.keys_groups.specs.States.{IsGrouped};
 
 use crate::groups::{Grouping, Groups, Table, check_settings};
 use keys_lines::cut_line;
-use keys_sketches::{BLOCK, ReadError, Sources, TextReader, read_failure};
+use keys_sketches::{BLOCK, ReadError, Sources, TextReader, read_failure, read_line};
 use sketch_base::Error;
 use std::alloc::{AllocError, Global};
 use std::io;
-use std::io::{BufRead, BufReader, ErrorKind, Read};
+use std::io::{BufReader, ErrorKind, Read};
 
 /// Watches while lines are put into groups.
 pub trait GroupWatch {
@@ -45,7 +45,7 @@ pub(crate) fn next_line<R: Read>(reader: &mut BufReader<R>, line: &mut Vec<u8>) 
         line.new.items) }
 {
     line.clear();
-    let count = reader.read_until(b'\n', line)?;
+    let count = read_line(reader, line)?;
     if count == 0 {
         return Ok(false);
     }

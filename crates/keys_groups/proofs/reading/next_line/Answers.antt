@@ -5,5 +5,5 @@ use Rattle.keys_groups.proofs.reading.next_line.Goals as goal
 
 pub returns : goal.returns
 returns g c =
-    line_read (reader_remaining g.R.Read.remaining c.args.reader.now) (reader_remaining g.R.Read.remaining c.read_until.new.self) c.clear.new.self.items c.read_until.new.buf.items c.in_ok-count.count
-    c.clear.ensures.items c.in_ok-count.ensures.bytes c.in_ok-count.ensures.rest (omega (arith, c.read_until.new.buf.ok, c.clear.new.self.ok, c.in_ok-count.ensures.ok)) c.if-count-eq0.false
+    line_read (reader_remaining g.R.Read.remaining c.args.reader.now) (reader_remaining g.R.Read.remaining c.read_line.new.reader) c.clear.new.self.items c.read_line.new.line.items c.in_ok-count.count
+    c.clear.ensures.items c.in_ok-count.ensures.bytes c.in_ok-count.ensures.rest (omega (arith, c.read_line.new.line.ok, c.clear.new.self.ok, c.in_ok-count.ensures.ok)) c.if-count-eq0.false
