@@ -11,7 +11,7 @@ from model_table import MAX_THETA, Unspecified
 from random_words import behind, flag, image, key, operand, seed_words, series, settings, span_of
 
 NUMBERS = ("sums:u32", "sums:u64", "sums:i32", "sums:i64")
-POLICIES = (*NUMBERS, "sums:u64", "greatest", "digits", "refuses:3", "unmade", "letters", "unwritten")
+POLICIES = (*NUMBERS, "sums:u64", "least", "greatest", "digits", "refuses:3", "unmade", "letters", "unwritten")
 KINDS = {"letters": "text", **{f"sums:{kind}": kind for kind in ("u32", "u64", "i32", "i64")}}
 
 

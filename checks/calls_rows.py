@@ -79,6 +79,8 @@ theta_sketch seed=50541: see | argument
 tuple_sketch sums:u32: hash 9:4294967295; hash 9:1; see | made; ok; policy; nonempty EXACT count=1 ~ [9:4294967295]
 tuple_sketch sums:u32: hash 9:3; hash 9:4; see | made; ok; ok; nonempty EXACT count=1 ~ [9:7]
 tuple_sketch sums:i32: hash 9:-5; hash 9:2; see | made; ok; ok; nonempty EXACT count=1 ~ [9:-3]
+tuple_sketch least: hash 9:3; hash 9:7; hash 9:2; see | made; ok; ok; ok; nonempty EXACT count=1 ~ [9:2]
+tuple_sketch least: hash 9:18446744073709551615; hash 5:0; see | made; ok; ok; nonempty EXACT count=2 ~ [5:0 9:18446744073709551615]
 tuple_sketch greatest: hash 9:3; hash 9:7; hash 9:5; see | made; ok; ok; ok; nonempty EXACT count=1 ~ [9:7]
 tuple_sketch refuses:3: hash 9:3; see | made; policy; empty EXACT count=0 ~ []
 tuple_sketch unmade: hash 9:3; see; hash 0:3; see | made; memory; empty ~; ok; nonempty ~

@@ -26,12 +26,12 @@ M64 = 2**64 - 1
 LINES = "-C --lg-k --field --separator --seed --seed-file --files0-from --part --progress "
 OPTIONS = {
     "count": LINES + "--by --sort --min --top --bounds --human --tsv --json",
-    "sketch": LINES + "--by --value --visits --hex --output --output-dir --force",
-    "union": "-C --lg-k --seed --seed-file --files0-from --expect --hex --groups --sums --output",
+    "sketch": LINES + "--by --value --summary --visits --hex --output --output-dir --force",
+    "union": "-C --lg-k --seed --seed-file --files0-from --expect --hex --groups --sums --summary --output",
     "meet": "-C --seed --seed-file --files0-from --expect --hex --output",
     "minus": "-C --seed --seed-file --hex --output",
     "show": "-C --seed --seed-file --files0-from --hex --bounds --tsv --json",
-    "eval": "-C --lg-k --seed --seed-file --keys --sums --field --separator --bounds --tsv --json --hex --output --force",
+    "eval": "-C --lg-k --seed --seed-file --keys --sums --summary --field --separator --bounds --tsv --json --hex --output --force",
     "visits": "-C --lg-k --field --separator --sums --hex --seed --seed-file --files0-from --part --bounds --tsv --json",
     "sum": "-C --value --lg-k --field --separator --seed --seed-file --files0-from --part --tsv --json",
 }
@@ -39,6 +39,8 @@ OPTIONS = {command: f"{options} --quiet" for command, options in OPTIONS.items()
 FLAGS = ("--hex", "--groups", "--sums", "--visits", "--progress", "--keys", "--force", "--quiet", "--human")
 # Short names of options with a value, which may be attached to them.
 SHORT = {"-k": "--lg-k", "-f": "--field", "-d": "--separator", "-o": "--output"}
+# How the numbers of a key are combined.
+MODES = {"sum": int.__add__, "min": min, "max": max}
 FAMILIES = (
     "Alpha sketches,update sketches,theta sketches,unions,intersections,differences,HLL sketches,quantiles sketches,"
     "tuple sketches,frequency sketches,reservoirs,unions of reservoirs,VarOpt sketches,unions of VarOpt sketches,KLL sketches,"
@@ -148,29 +150,29 @@ def visits_of(texts, options, seed):
 
 
 def sums_of(texts, options, seed):
-    """The sketch of the lines of texts, each with its name, with the sum of the values of each of its hashes; of 1 without --value."""
-    sums = collections.Counter()
+    """The sketch of the lines of texts, each with its name, with the values of each of its hashes combined by --summary; of 1 without --value."""
+    sums, combine = {}, MODES[options.get("--summary", "sum")]
     for name, text in texts:
         for number, line in enumerate(lines_of(text), 1):
             value = key_of(line, options["--value"], options["--separator"]) if options.get("--value") else b"1"
             if not re.fullmatch(rb"[0-9]+", value) or int(value) > M64:
                 raise Failure(f"{escaped(called(name))}: line {number}: its value is not a whole number up to {M64}: check --value and --separator")
             key = murmur(key_of(line, options["--field"], options["--separator"]), seed) >> 1
-            sums[key] += int(value)
+            sums[key] = combine(sums[key], int(value)) if key in sums else int(value)
             if sums[key] > M64:
                 raise Failure(f"{escaped(called(name))}: line {number}: the sum of its key is above {M64}")
     sketch = sketch_of([text for _, text in texts], options, seed)
     return sketch and ({it: sums[it] for it in sketch[0]}, sketch[1])
 
 
-def unite_sums(k, parts):
-    """The union of sketches of sums, and the first part with which a sum is above 64 bits; one of the two is None."""
+def unite_sums(k, parts, mode="sum"):
+    """The union of sketches of sums by a mode, and the first part with which a sum is above 64 bits; one of the two is None."""
     theta, sums = MAX_THETA, {}
     for place, part in enumerate(parts):
         part_sums, part_theta = part or ({}, MAX_THETA)
         theta = min(theta, part_theta)
         for it, number in part_sums.items():
-            sums[it] = sums.get(it, 0) + number
+            sums[it] = MODES[mode](sums[it], number) if it in sums else number
         hashes, theta = cut(k, sums, theta)
         sums = {it: sums[it] for it in hashes}
         if any(it > M64 for it in sums.values()):
@@ -232,6 +234,11 @@ def sums_length(image):
     return start + 16 * (0 if image[5] & 4 else 1 if image[0] == 1 else struct.unpack_from("<I", image, 8)[0])
 
 
+def damaged(what):
+    """The message on an image that is damaged, by what is not valid."""
+    return f"is damaged ({what}): copy or make it again"
+
+
 def sums_flaw_of(image, own_hash):
     """Why bytes are not one image of sums that is read: the first reason."""
     length = sums_length(image)
@@ -246,18 +253,17 @@ def sums_flaw_of(image, own_hash):
         return f"is of version {image[1]}; versions 1 and 3 are read: write it in version 3"
     if image[5] & 1:
         return "is in big-endian order: write it in little-endian order"
-    damaged = "is damaged (its preamble, sketch type, theta or hashes are not valid): copy or make it again"
     if not 1 <= image[0] <= 3 or image[3] not in (1, 5):
-        return damaged
+        return damaged("its preamble or sketch type is not valid")
     if length is None or length > len(image):
         return "is cut short: copy or make it again"
     if not image[5] & 4 and struct.unpack_from("<H", image, 6)[0] != own_hash:
         return "was made with another seed: pass that --seed"
     if not image[5] & 4 and image[0] == 3 and not 1 <= struct.unpack_from("<Q", image, 16)[0] <= MAX_THETA:
-        return damaged
+        return damaged("its theta is not from 1 to 2^63 - 1")
     if length < len(image):
         return "has bytes after its image: a file has one image, or with --hex one per line"
-    return damaged
+    return damaged("its hashes or sums are not valid")
 
 
 def sums_of_image(image, own_hash):
@@ -321,18 +327,17 @@ def flaw_of(image, own_hash):
         return f"is of version {image[1]}; versions 1 to 3 are read: write it in version 3, uncompressed"
     if image[1] == 3 and image[5] & 1:
         return "is in big-endian order: write it in little-endian order"
-    damaged = "is damaged (its preamble, theta or hashes are not valid): copy or make it again"
     if not 1 <= image[0] <= 3:
-        return damaged
+        return damaged("its preamble is not valid")
     if length is None or length > len(image):
         return "is cut short: copy or make it again"
     if image[1] > 1 and not is_empty(image) and struct.unpack_from("<H", image, 6)[0] != own_hash:
         return "was made with another seed: pass that --seed"
     if not is_empty(image) and not 1 <= theta_of(image) <= MAX_THETA:
-        return damaged
+        return damaged("its theta is not from 1 to 2^63 - 1")
     if length < len(image):
         return "has bytes after its image: a file has one image, or with --hex one per line"
-    return damaged
+    return damaged("its hashes are not valid")
 
 
 def sketch_of_image(image, own_hash):
@@ -519,6 +524,8 @@ def set_option(command, options, words):
         value = tuple(map(int, found.groups())) if found else (0, 0)
         if not 1 <= value[0] <= value[1] < 2**32:
             raise Fault("no part")
+    if option == "--summary" and value not in MODES:
+        raise Fault("another mode than sum, min and max")
     if option == "--sort" and value not in ("name", "estimate"):
         raise Fault("another order than name and estimate")
     if option in ("--seed", "--seed-file"):
@@ -579,26 +586,27 @@ def names_of(steps):
     return list(dict.fromkeys(name for kind, name in steps if kind == "name"))
 
 
-def two_sums(kind, first, second, k):
+def two_sums(kind, first, second, k, combine):
     """Two sketches of sums combined. A sum above 64 bits is an error, if the key is below both thetas."""
     (sums, theta), (more, other) = first or ({}, MAX_THETA), second or ({}, MAX_THETA)
-    if kind != "-" and any(it in more and sums[it] + more[it] > M64 for it in sums if it < min(theta, other)):
+    if kind != "-" and any(it in more and combine(sums[it], more[it]) > M64 for it in sums if it < min(theta, other)):
         raise Failure("above 64 bits")
     parts = [part and (set(part[0]), part[1]) for part in (first, second)]
     met = meet(parts) if kind == "&" else minus(*parts) if kind == "-" else unite(k, parts)
-    return met and ({it: sums.get(it, 0) + (more.get(it, 0) if kind != "-" else 0) for it in met[0]}, met[1])
+    both = {it: combine(sums[it], more[it]) for it in sums if it in more and kind != "-"}
+    return met and ({it: both.get(it, sums.get(it, more.get(it))) for it in met[0]}, met[1])
 
 
-def evaluated(steps, sketches, k, of_sums=False):
-    """The sketch of an expression over the sketches of its names."""
+def evaluated(steps, sketches, k, combine=None):
+    """The sketch of an expression over the sketches of its names, of sums if they are combined."""
     stack = []
     for kind, name in steps:
         if kind == "name":
             stack.append(sketches[name])
             continue
         second, first = stack.pop(), stack.pop()
-        if of_sums:
-            stack.append(two_sums(kind, first, second, k))
+        if combine:
+            stack.append(two_sums(kind, first, second, k, combine))
             continue
         stack.append(meet([first, second]) if kind == "&" else minus(first, second) if kind == "-" else unite(k, [first, second]))
     return stack.pop()
@@ -640,6 +648,8 @@ def read_arguments(words):
         raise Fault("--value and --visits")
     if command == "sketch" and {"--value", "--visits"} & options.keys() and {"--by", "--progress"} & options.keys():
         raise Fault("--value or --visits with --by or --progress")
+    if "--summary" in options and ("--value" if command == "sketch" else "--sums") not in options:
+        raise Fault("--summary without --value or --sums")
     if command == "visits" and "--hex" in options and "--sums" not in options:
         raise Fault("visits --hex without --sums")
     if "--sums" in options and ({"--groups", "--field"} & options.keys() or command == "eval" and "--bounds" in options):
@@ -813,7 +823,7 @@ def combined(command, sketches, options, messages):
         messages += coarser(sketches, lg_k)
         if not options["--sums"]:
             return unite(2**lg_k, parts)
-        return unite_sums(2**lg_k, parts)[0]
+        return unite_sums(2**lg_k, parts, options.get("--summary", "sum"))[0]
     sketch = meet(parts) if command == "meet" else minus(*parts)
     report = report_of(sketch, 2)
     if not report["exact"]:
@@ -941,7 +951,7 @@ def run(words, files, messages):
                 raise Failure(f"{len(found)} images found, {len(names_of(steps))} expected: with eval --hex each file has one line")
             sketches = dict(zip(names_of(steps), found))
         try:
-            sketch = evaluated(steps, sketches, 2 ** options["--lg-k"], of_sums)
+            sketch = evaluated(steps, sketches, 2 ** options["--lg-k"], MODES[options.get("--summary", "sum")] if of_sums else None)
         except Failure:
             raise Failure(f"eval: '{escaped(names[0])}': the sum of a key is above {M64}") from None
         lowest = min(part[1] if part else MAX_THETA for part in sketches.values())
@@ -954,7 +964,7 @@ def run(words, files, messages):
         of_sums, places, rows = bool(options["--sums"]), [], []
         for row in sketches_in(command, files, names, hex_lines, seed_hash(seed), of_sums, places):
             rows.append(row)
-            if of_sums and unite_sums(2 ** options["--lg-k"], [part for _, part in rows])[1] is not None:
+            if of_sums and unite_sums(2 ** options["--lg-k"], [part for _, part in rows], options.get("--summary", "sum"))[1] is not None:
                 place = places[-1].rstrip(": ") if hex_lines else places[-1][:-2]
                 raise Failure(f"{place}: the sum of a key is above {M64} with this image")
         if not rows:

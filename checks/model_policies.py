@@ -44,6 +44,18 @@ class Greatest(Sums):
     combine = update
 
 
+class Least(Sums):
+    """Keeps the least value, from the greatest of 64 bits."""
+
+    def create(self):
+        return 2**64 - 1
+
+    def update(self, summary, value):
+        return min(summary, value)
+
+    combine = update
+
+
 class Digits(Sums):
     """Writes the other value's digit behind those that are there."""
 
@@ -102,7 +114,7 @@ def policy_of(word):
         return Sums(told)
     if name == "refuses" and told.isdigit() and int(told) < 2**64:
         return Refuses(int(told))
-    makers = {"greatest": Greatest, "digits": Digits, "unmade": Unmade, "unwritten": Unwritten}
+    makers = {"least": Least, "greatest": Greatest, "digits": Digits, "unmade": Unmade, "unwritten": Unwritten}
     if colon:
         return None
     return Letters("text") if name == "letters" else makers[name]() if name in makers else None

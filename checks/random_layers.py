@@ -186,7 +186,7 @@ def plan_line(chance, _):
     """A plan that is read from its text."""
     text = plan_text(chance)
     seed = chance.choice((9001, 9001, 7, SEED_OF_ZERO))
-    policies = ("sums:u64", "greatest", "digits", "refuses:7", "unmade", "unwritten")
+    policies = ("sums:u64", "least", "greatest", "digits", "refuses:7", "unmade", "unwritten")
     calls = ["shape", "levels"]
     calls += [f"evaluate {seed}"] if text.startswith("theta") else [f"sums {seed}", f"tuple {chance.choice(policies)} {seed}"]
     return f"plan {text}", calls

@@ -143,7 +143,7 @@ def begin_flaw(kind, image):
     if image[1] not in versions:
         return f"Version({image[1]})"
     if not 1 <= image[0] <= 3 or kind != "theta" and image[3] not in (1, 5):
-        return "Damaged"
+        return "Malformed"
     return None
 
 
@@ -176,7 +176,7 @@ def preamble_flaw(kind, image, seed_hash):
         return "Cut"
     if seed_hash == 0 or it.asked not in (None, seed_hash):
         return "Seed"
-    return None if 1 <= it.theta <= MAX_THETA else "Damaged"
+    return None if 1 <= it.theta <= MAX_THETA else "Theta"
 
 
 def flaw_of(kind, image, seed_hash, alone=True):
@@ -185,7 +185,7 @@ def flaw_of(kind, image, seed_hash, alone=True):
     if flaw is None:
         flaw = "Longer" if alone and told(kind, image).length < len(image) else "Damaged"
     has_flags = len(image) >= 8 and (kind != "theta" or image[1] == 3)
-    return "BigEndian" if has_flags and image[5] & 1 and flaw in ("Cut", "Seed", "Damaged", "Longer") else flaw
+    return "BigEndian" if has_flags and image[5] & 1 and flaw in ("Malformed", "Cut", "Seed", "Theta", "Damaged", "Longer") else flaw
 
 
 def held_by(kind, image, seed_hash=SEED_HASH):

@@ -85,6 +85,8 @@ FLAWS = (
     ("is of version", "version {1}"),
     ("is in big-endian", "big-endian"),
     ("was made with another seed", "seed"),
+    ("is damaged (its preamble", "malformed"),
+    ("is damaged (its theta", "theta"),
     ("is damaged", "damaged"),
     ("is cut short", "cut"),
     ("has bytes after its image", "longer"),

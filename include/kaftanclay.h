@@ -63,8 +63,17 @@ enum {
     KC_FLAW_SEED = 6,        /* the image has another seed hash, and is not that of an empty sketch */
     KC_FLAW_CUT = 7,         /* the image is longer than the bytes, or they end within its preamble */
     KC_FLAW_LONGER = 8,      /* bytes follow the image */
-    KC_FLAW_DAMAGED = 9      /* the preamble, the sketch type, theta or the hashes are not valid; it is also written for
-                              * bytes without a flaw */
+    KC_FLAW_DAMAGED = 9,     /* the hashes or the summaries are not valid; it is also written for bytes without a
+                              * flaw */
+    KC_FLAW_MALFORMED = 10,  /* the preamble has not 1 to 3 longs, or the image is of a sketch type that is not read */
+    KC_FLAW_THETA = 11       /* theta is 0 or greater than 2^63 - 1 */
+};
+
+/* What a tuple sketch keeps of the values of a key. */
+enum {
+    KC_SUM = 0, /* the sum of the values of a key */
+    KC_MIN = 1, /* the least value of a key */
+    KC_MAX = 2  /* the greatest value of a key */
 };
 
 typedef struct { void *object; } kc_theta;             /* a theta sketch that takes updates */
@@ -93,7 +102,7 @@ typedef struct {
 
 /* What the preamble of bytes says of the image that they begin. */
 typedef struct {
-    uint32_t flaw;   /* why they are not one image, from 1 to 9: the first of the flaws that applies */
+    uint32_t flaw;   /* why they are not one image, from 1 to 11: the first of the flaws that applies */
     uint32_t found;  /* the byte of the family or of the version that is at fault; else 0 */
     uint64_t length; /* how many bytes the image has by its preamble, at least 8; 0 if that isn't known */
 } kc_finding;
@@ -328,13 +337,18 @@ kc_status kc_sums_new(kc_sums *sums, uint32_t lg_k, uint64_t seed);
 /* Makes a sketch with a resize factor and a starting theta, as kc_theta_new_with does. */
 kc_status kc_sums_new_with(kc_sums *sums, uint32_t lg_k, uint64_t seed, uint32_t resize_factor,
                            uint64_t starting_theta);
+/* Makes a sketch of a mode, otherwise as kc_sums_new_with does. Beside each hash it keeps the sum of its values for
+ * KC_SUM, as other sketches do, the least of them for KC_MIN, and the greatest for KC_MAX. Refused with
+ * KC_INVALID_ARGUMENT for another mode too. */
+kc_status kc_sums_new_by_mode(kc_sums *sums, uint32_t lg_k, uint64_t seed, uint32_t resize_factor,
+                              uint64_t starting_theta, uint32_t mode);
 /* Copies a sketch, with its sums, its theta and settings, into another handle. Refused with KC_OUT_OF_MEMORY. */
 kc_status kc_sums_clone(const kc_sums *sums, kc_sums *out);
 /* Frees the sketch of a handle, if it has one. */
 kc_status kc_sums_free(kc_sums *sums);
-/* Adds a value to the sum of a hash, which is 0 at first. A hash that is 0 or at least theta is not retained, but the
- * sketch is nonempty afterwards. Refused with KC_POLICY if the sum would be 2^64 or more, and with KC_OUT_OF_MEMORY,
- * only for a new hash below theta. */
+/* Adds a value to the sum of a hash, which is 0 at first; or keeps the less or the greater of both, if that is the
+ * sketch's mode. A hash that is 0 or at least theta is not retained, but the sketch is nonempty afterwards. Refused
+ * with KC_POLICY if a sum would be 2^64 or more, and with KC_OUT_OF_MEMORY, only for a new hash below theta. */
 kc_status kc_sums_add_hash(kc_sums *sums, uint64_t hash, uint64_t value);
 /* Adds a value to the sum of a number, by its hash as in kc_theta_update_u64. Refused as kc_sums_add_hash is. */
 kc_status kc_sums_add_u64(kc_sums *sums, uint64_t number, uint64_t value);
@@ -411,6 +425,11 @@ kc_status kc_sums_union_new(kc_sums_union *u, uint32_t lg_k, uint64_t seed);
 /* Makes a union with a resize factor and a starting theta, as kc_theta_new_with makes a sketch. */
 kc_status kc_sums_union_new_with(kc_sums_union *u, uint32_t lg_k, uint64_t seed, uint32_t resize_factor,
                                  uint64_t starting_theta);
+/* Makes a union of a mode, otherwise as kc_sums_union_new_with does. Beside each hash it keeps the sum of the numbers
+ * of all sketches for KC_SUM, as other unions do, the least of them for KC_MIN, and the greatest for KC_MAX, whatever
+ * the modes of its sketches. Refused with KC_INVALID_ARGUMENT for another mode too. */
+kc_status kc_sums_union_new_by_mode(kc_sums_union *u, uint32_t lg_k, uint64_t seed, uint32_t resize_factor,
+                                    uint64_t starting_theta, uint32_t mode);
 /* Frees the union of a handle, if it has one. */
 kc_status kc_sums_union_free(kc_sums_union *u);
 /* Merges a sketch that takes updates into the union, as kc_union_add does. Refused as that call is; and with KC_POLICY
@@ -440,6 +459,10 @@ kc_status kc_sums_union_estimated_size(const kc_sums_union *u, uint64_t *bytes);
 /* Makes an intersection, refused as kc_intersection_new is. Its value is that of an intersection of theta sketches, and
  * beside each hash the sum of the sums of all sketches. */
 kc_status kc_sums_intersection_new(kc_sums_intersection *intersection, uint64_t seed);
+/* Makes an intersection of a mode, otherwise as kc_sums_intersection_new does. Beside each hash it keeps the sum of the
+ * numbers of all sketches for KC_SUM, as other intersections do, the least of them for KC_MIN, and the greatest for
+ * KC_MAX, whatever the modes of its sketches. Refused with KC_INVALID_ARGUMENT for another mode too. */
+kc_status kc_sums_intersection_new_by_mode(kc_sums_intersection *intersection, uint64_t seed, uint32_t mode);
 /* Frees the intersection of a handle, if it has one. */
 kc_status kc_sums_intersection_free(kc_sums_intersection *intersection);
 /* Intersects with a sketch that takes updates, as kc_intersection_add does. Refused as that call is, and with KC_POLICY

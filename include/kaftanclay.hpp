@@ -28,6 +28,9 @@ namespace kaftanclay {
 constexpr unsigned default_lg_k = 12;
 constexpr std::uint64_t default_seed = KC_DEFAULT_SEED;
 
+/* What a tuple sketch keeps of the values of a key, and an operator of its values in several sketches. An image doesn't record it. */
+enum class Mode : std::uint32_t { sum = KC_SUM, min = KC_MIN, max = KC_MAX };
+
 /* A call of the library was refused. */
 class Error : public std::runtime_error {
 public:
@@ -78,6 +81,9 @@ private:
 using Image = std::vector<std::uint8_t>;
 
 namespace detail {
+
+/* What kc_sums_new takes as the resize factor. */
+constexpr std::uint32_t default_resize_factor = 8;
 
 /* A handle that owns an object. */
 template <class H, kc_status (*Free)(H *)> class Handle {
@@ -174,11 +180,12 @@ private:
     kc_state state_;
 };
 
-/* The total of a tuple sketch of sums, and the estimate of the total of all values that were added. */
+/* The total of a tuple sketch, and the estimate of the total of all values that were added; of the mode min or max, of the least or the
+ * greatest value of each key. */
 class Total {
 public:
     Total(const kc_wide &retained, std::uint64_t theta) noexcept : retained_(retained), theta_(theta) {}
-    /* The sum of the retained sums. */
+    /* The sum of what is retained of each key. */
     const kc_wide &retained() const noexcept { return retained_; }
     double estimate() const noexcept { return kc_total(&retained_, theta_); }
     kc_wide rounded() const {
@@ -357,7 +364,7 @@ private:
     std::uint64_t seed_;
 };
 
-/* ---- Tuple sketches of sums ---- */
+/* ---- Tuple sketches of sums, least and greatest values ---- */
 
 /* A tuple sketch that never changes. */
 class CompactSums : public detail::Handle<kc_compact_sums, kc_compact_sums_free> {
@@ -383,7 +390,7 @@ public:
         return detail::written<Image>(
             [&](void *out, std::size_t room, std::uint64_t *length) { return kc_compact_sums_image(get(), out, room, length); });
     }
-    /* The hashes and their sums. */
+    /* The hashes and their sums, or least or greatest values. */
     struct Entries {
         std::vector<std::uint64_t> hashes;
         std::vector<std::uint64_t> sums;
@@ -414,12 +421,13 @@ private:
     friend class SumsIntersection;
 };
 
-/* A tuple sketch that takes updates: for each key the sum of its values. */
+/* A tuple sketch that takes updates: for each key the sum of its values, or the least or the greatest. */
 class Sums : public detail::Handle<kc_sums, kc_sums_free> {
 public:
-    explicit Sums(unsigned lg_k = default_lg_k, std::uint64_t seed = default_seed) { check(kc_sums_new(get(), lg_k, seed)); }
-    Sums(unsigned lg_k, std::uint64_t seed, std::uint32_t resize_factor, std::uint64_t starting_theta) {
-        check(kc_sums_new_with(get(), lg_k, seed, resize_factor, starting_theta));
+    explicit Sums(unsigned lg_k = default_lg_k, std::uint64_t seed = default_seed, Mode mode = Mode::sum)
+        : Sums(lg_k, seed, detail::default_resize_factor, KC_MAX_THETA, mode) {}
+    Sums(unsigned lg_k, std::uint64_t seed, std::uint32_t resize_factor, std::uint64_t starting_theta, Mode mode = Mode::sum) {
+        check(kc_sums_new_by_mode(get(), lg_k, seed, resize_factor, starting_theta, static_cast<std::uint32_t>(mode)));
     }
     Sums clone() const {
         Sums out{Nothing{}};
@@ -458,8 +466,9 @@ private:
 
 class SumsUnion : public detail::Handle<kc_sums_union, kc_sums_union_free> {
 public:
-    explicit SumsUnion(unsigned lg_k = default_lg_k, std::uint64_t seed = default_seed) : seed_(seed) {
-        check(kc_sums_union_new(get(), lg_k, seed));
+    explicit SumsUnion(unsigned lg_k = default_lg_k, std::uint64_t seed = default_seed, Mode mode = Mode::sum) : seed_(seed) {
+        auto number = static_cast<std::uint32_t>(mode);
+        check(kc_sums_union_new_by_mode(get(), lg_k, seed, detail::default_resize_factor, KC_MAX_THETA, number));
     }
     void add(const Sums &sketch) { check(kc_sums_union_add(get(), sketch.get())); }
     void add(const CompactSums &sketch) { check(kc_sums_union_add_compact(get(), sketch.get())); }
@@ -484,7 +493,9 @@ private:
 
 class SumsIntersection : public detail::Handle<kc_sums_intersection, kc_sums_intersection_free> {
 public:
-    explicit SumsIntersection(std::uint64_t seed = default_seed) : seed_(seed) { check(kc_sums_intersection_new(get(), seed)); }
+    explicit SumsIntersection(std::uint64_t seed = default_seed, Mode mode = Mode::sum) : seed_(seed) {
+        check(kc_sums_intersection_new_by_mode(get(), seed, static_cast<std::uint32_t>(mode)));
+    }
     void add(const Sums &sketch) { check(kc_sums_intersection_add(get(), sketch.get())); }
     void add(const CompactSums &sketch) { check(kc_sums_intersection_add_compact(get(), sketch.get())); }
     void add_image(Bytes image) {

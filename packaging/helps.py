@@ -21,6 +21,8 @@ class Option:
         if self.value == "ORDER":
             found = re.search(r"\b(\w+), the default, or (\w+)", self.meaning)
             return self._all(found)
+        if self.value == "MODE":
+            return self._all(re.search(r"MODE is (\w+), the default, (\w+) or (\w+)", self.meaning))
         if self.value == "Z":
             return self._all(re.search(r"Z is (\d), (\d) or (\d)", self.meaning))
         span = re.search(r"\bN from (\d+) to (\d+)(?![\d^])", self.meaning)

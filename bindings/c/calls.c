@@ -443,6 +443,12 @@ kc_status kc_sums_new_with(kc_sums *sums, uint32_t lg_k, uint64_t seed, uint32_t
     return kcp_sums_new_with(sums, lg_k, seed, resize_factor, starting_theta);
 }
 
+kc_status kc_sums_new_by_mode(kc_sums *sums, uint32_t lg_k, uint64_t seed, uint32_t resize_factor,
+                              uint64_t starting_theta, uint32_t mode) {
+    REFUSE_UNLESS(sums != NULL);
+    return kcp_sums_new_by_mode(sums, lg_k, seed, resize_factor, starting_theta, mode);
+}
+
 kc_status kc_sums_clone(const kc_sums *sums, kc_sums *out) {
     REFUSE_UNLESS(sums != NULL && out != NULL && sums != out);
     kc_sums sums_reader = *sums;
@@ -620,6 +626,12 @@ kc_status kc_sums_union_new_with(kc_sums_union *u, uint32_t lg_k, uint64_t seed,
     return kcp_sums_union_new_with(u, lg_k, seed, resize_factor, starting_theta);
 }
 
+kc_status kc_sums_union_new_by_mode(kc_sums_union *u, uint32_t lg_k, uint64_t seed, uint32_t resize_factor,
+                                    uint64_t starting_theta, uint32_t mode) {
+    REFUSE_UNLESS(u != NULL);
+    return kcp_sums_union_new_by_mode(u, lg_k, seed, resize_factor, starting_theta, mode);
+}
+
 kc_status kc_sums_union_free(kc_sums_union *u) {
     REFUSE_UNLESS(u != NULL);
     kcp_sums_union_free(u);
@@ -682,6 +694,11 @@ kc_status kc_sums_union_estimated_size(const kc_sums_union *u, uint64_t *bytes) 
 kc_status kc_sums_intersection_new(kc_sums_intersection *intersection, uint64_t seed) {
     REFUSE_UNLESS(intersection != NULL);
     return kcp_sums_intersection_new(intersection, seed);
+}
+
+kc_status kc_sums_intersection_new_by_mode(kc_sums_intersection *intersection, uint64_t seed, uint32_t mode) {
+    REFUSE_UNLESS(intersection != NULL);
+    return kcp_sums_intersection_new_by_mode(intersection, seed, mode);
 }
 
 kc_status kc_sums_intersection_free(kc_sums_intersection *intersection) {
@@ -835,7 +852,9 @@ const char *kc_flaw_text(uint32_t flaw) {
     case KC_FLAW_SEED: return "the image has another seed hash, and is not that of an empty sketch";
     case KC_FLAW_CUT: return "the image is longer than the bytes, or they end within its preamble";
     case KC_FLAW_LONGER: return "bytes follow the image";
-    case KC_FLAW_DAMAGED: return "the preamble, the sketch type, theta or the hashes are not valid; it is also written for bytes without a flaw";
+    case KC_FLAW_DAMAGED: return "the hashes or the summaries are not valid; it is also written for bytes without a flaw";
+    case KC_FLAW_MALFORMED: return "the preamble has not 1 to 3 longs, or the image is of a sketch type that is not read";
+    case KC_FLAW_THETA: return "theta is 0 or greater than 2^63 - 1";
     default: return "a number that is no flaw of an image";
     }
 }

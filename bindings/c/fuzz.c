@@ -216,7 +216,7 @@ static void call_sums(void) {
     kc_state state;
     switch (byte() % 9) {
     case 0: MAKES(&sums[i], kc_sums_new(&sums[i], lg_k(), seed())); break;
-    case 1: MAKES(&sums[i], kc_sums_new_with(&sums[i], lg_k(), seed(), 1u << byte() % 4, number() & KC_MAX_THETA)); break;
+    case 1: MAKES(&sums[i], kc_sums_new_by_mode(&sums[i], lg_k(), seed(), 1u << byte() % 4, number() & KC_MAX_THETA, byte() % 4)); break;
     case 2: if (i != j) MAKES(&sums[j], kc_sums_clone(&sums[i], &sums[j])); break;
     case 3: MUST(kc_sums_free(&sums[i]) == KC_OK && sums[i].object == NULL); break;
     case 4: called(kc_sums_trim(&sums[i])); break;
@@ -327,7 +327,7 @@ int LLVMFuzzerTestOneInput(const unsigned char *bytes, size_t count) {
         MAKES(&thetas[i], kc_theta_new(&thetas[i], 4 + i, KC_DEFAULT_SEED));
         MAKES(&sums[i], kc_sums_new(&sums[i], 4 + i, KC_DEFAULT_SEED));
         if (i > 0) MAKES(&unions[i], kc_union_new(&unions[i], 4 + i, KC_DEFAULT_SEED));
-        if (i > 0) MAKES(&sums_unions[i], kc_sums_union_new(&sums_unions[i], 4 + i, KC_DEFAULT_SEED));
+        if (i > 0) MAKES(&sums_unions[i], kc_sums_union_new_by_mode(&sums_unions[i], 4 + i, KC_DEFAULT_SEED, 8, KC_MAX_THETA, i % 3));
     }
     while (left > 0) {
         switch (byte() % 12) {

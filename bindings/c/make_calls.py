@@ -18,6 +18,7 @@ TOP = os.path.join(os.path.dirname(os.path.abspath(__file__)), "..", "..")
 EXPORTS = "crates/c_library/src"
 STATUSES = "crates/c_objects/src/status.rt"
 FLAWS = "crates/c_objects/src/flaws.rt"
+MODES = "crates/c_objects/src/settings.rt"
 STRUCTS = ("crates/c_handles/src/handles.rt", "crates/c_objects/src/state.rt", "crates/c_objects/src/bounds.rt", FLAWS)
 READERS = "crates/c_handles/src/readers.rt"
 # The numbers that C has by name, each with the file of its constant and the constant's name there.
@@ -153,7 +154,7 @@ def snake(name):
 
 
 def named_numbers(path):
-    """The numbers of a file that have names, statuses or flaws: each its name, its number and its meaning."""
+    """The numbers of a file that have names, statuses, flaws or modes: each its name, its number and its meaning."""
     text = text_of(path)
     found = []
     for it in re.finditer(r"(?m)^pub const (\w+): u32 = (\d+);$", text):
@@ -405,7 +406,7 @@ def text_call(declared, argument, numbers, other):
     return "\n".join([*out, f'    default: return "{other}";\n    }}\n}}\n'])
 
 
-def header(paragraphs, all_statuses, flaws, known, sections, version):
+def header(paragraphs, all_statuses, flaws, modes, known, sections, version):
     out = []
     for at, it in enumerate(paragraphs):
         first = "/* " if at == 0 else " * "
@@ -418,6 +419,8 @@ def header(paragraphs, all_statuses, flaws, known, sections, version):
     out += enumeration(all_statuses)
     out += ["", "/* Why bytes are not one image. */"]
     out += enumeration(flaws)
+    out += ["", "/* What a tuple sketch keeps of the values of a key. */"]
+    out += enumeration(modes)
     out.append("")
     handles = [it for it in known.values() if it.is_handle]
     room = max(len(it.name) for it in handles)
@@ -521,8 +524,8 @@ def symbols(names, version, old):
 def made():
     """Each file that is made, by its path, and a line on what was read."""
     comments = Comments()
-    all_statuses, flaws = named_numbers(STATUSES), named_numbers(FLAWS)
-    comments.statuses = {name for name, _, _ in all_statuses + flaws}
+    all_statuses, flaws, modes = named_numbers(STATUSES), named_numbers(FLAWS), named_numbers(MODES)
+    comments.statuses = {name for name, _, _ in all_statuses + flaws + modes}
     all_statuses = [(name, value, comments.of_c(STATUSES, meaning)) for name, value, meaning in all_statuses]
     flaws = [(name, value, comments.of_c(FLAWS, meaning)) for name, value, meaning in flaws]
     known = structs(comments)
@@ -541,7 +544,7 @@ def made():
     if twice or unread:
         stop(EXPORTS, f"{', '.join(sorted(twice))} is exported twice" if twice else f"lib.rt names no module {', '.join(sorted(unread))}")
     files = {
-        HEADER: header(library_comment(comments), all_statuses, flaws, known, sections, version),
+        HEADER: header(library_comment(comments), all_statuses, flaws, modes, known, sections, version),
         PROVED: proved(sections),
         CALLS: calls(all_statuses, flaws, known, sections),
         SYMBOLS: symbols([*names, *CALLS_OF_C], version, text_of(SYMBOLS)),

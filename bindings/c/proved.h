@@ -86,6 +86,8 @@ kc_status kcp_sums_image_flaw(const uint8_t *image, size_t count, uint64_t seed,
 kc_status kcp_sums_new(kc_sums *sums, uint32_t lg_k, uint64_t seed);
 kc_status kcp_sums_new_with(kc_sums *sums, uint32_t lg_k, uint64_t seed, uint32_t resize_factor,
                             uint64_t starting_theta);
+kc_status kcp_sums_new_by_mode(kc_sums *sums, uint32_t lg_k, uint64_t seed, uint32_t resize_factor,
+                               uint64_t starting_theta, uint32_t mode);
 kc_status kcp_sums_clone(kc_sums *sums, kc_sums *out);
 void kcp_sums_free(kc_sums *sums);
 kc_status kcp_sums_add_hash(kc_sums *sums, uint64_t hash, uint64_t value);
@@ -122,6 +124,8 @@ kc_status kcp_compact_sums_estimated_size(kc_compact_sums *sums, uint64_t *bytes
 kc_status kcp_sums_union_new(kc_sums_union *u, uint32_t lg_k, uint64_t seed);
 kc_status kcp_sums_union_new_with(kc_sums_union *u, uint32_t lg_k, uint64_t seed, uint32_t resize_factor,
                                   uint64_t starting_theta);
+kc_status kcp_sums_union_new_by_mode(kc_sums_union *u, uint32_t lg_k, uint64_t seed, uint32_t resize_factor,
+                                     uint64_t starting_theta, uint32_t mode);
 void kcp_sums_union_free(kc_sums_union *u);
 kc_status kcp_sums_union_add(kc_sums_union *u, kc_sums *sketch);
 kc_status kcp_sums_union_add_compact(kc_sums_union *u, kc_compact_sums *sketch);
@@ -134,6 +138,7 @@ kc_status kcp_sums_union_result_with(kc_sums_union *u, uint32_t ordered, kc_comp
 kc_status kcp_sums_union_estimated_size(kc_sums_union *u, uint64_t *bytes);
 
 kc_status kcp_sums_intersection_new(kc_sums_intersection *intersection, uint64_t seed);
+kc_status kcp_sums_intersection_new_by_mode(kc_sums_intersection *intersection, uint64_t seed, uint32_t mode);
 void kcp_sums_intersection_free(kc_sums_intersection *intersection);
 kc_status kcp_sums_intersection_add(kc_sums_intersection *intersection, kc_sums *sketch);
 kc_status kcp_sums_intersection_add_compact(kc_sums_intersection *intersection, kc_compact_sums *sketch);

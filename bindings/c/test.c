@@ -671,6 +671,43 @@ static void sums_intersections(void) {
     kc_sums_free(&a), kc_sums_free(&b), kc_sums_free(&other), kc_sums_free(&empty), kc_compact_sums_free(&ca), kc_compact_sums_free(&cb);
 }
 
+/* Sums, least and greatest numbers: sketches, unions and intersections of each mode. */
+static void modes(void) {
+    /* the number of key 5: of its values 3 and 9, of a copy that gets 1 too, and with a sketch that has 7 there */
+    static const uint64_t in_sketch[3] = {12, 3, 9}, in_copy[3] = {13, 1, 9}, in_both[3] = {19, 3, 9};
+    kc_sums a = {0}, b = {0}, copy = {0};
+    kc_compact_sums c = {0}, r = {0};
+    kc_sums_union u = {0};
+    kc_sums_intersection i = {0};
+    uint64_t length = 0;
+    WANT(kc_sums_new_by_mode(&a, 12, SEED, 8, KC_MAX_THETA, 3) == KC_INVALID_ARGUMENT && kc_sums_new_by_mode(&a, 12, SEED, 8, KC_MAX_THETA, 256) == KC_INVALID_ARGUMENT);
+    WANT(kc_sums_new_by_mode(&a, 12, SEED, 5, KC_MAX_THETA, 1) == KC_INVALID_ARGUMENT && kc_sums_new_by_mode(&a, 27, SEED, 8, KC_MAX_THETA, 1) == KC_INVALID_ARGUMENT);
+    WANT(kc_sums_new_by_mode(&a, 12, 50541, 8, KC_MAX_THETA, 1) == KC_INVALID_ARGUMENT && kc_sums_new_by_mode(&a, 12, SEED, 8, 0, 1) == KC_INVALID_ARGUMENT && a.object == NULL);
+    WANT(kc_sums_union_new_by_mode(&u, 12, SEED, 8, KC_MAX_THETA, 3) == KC_INVALID_ARGUMENT && kc_sums_union_new_by_mode(&u, 12, SEED, 5, KC_MAX_THETA, 1) == KC_INVALID_ARGUMENT && u.object == NULL);
+    WANT(kc_sums_intersection_new_by_mode(&i, SEED, 3) == KC_INVALID_ARGUMENT && kc_sums_intersection_new_by_mode(&i, 50541, 1) == KC_INVALID_ARGUMENT && i.object == NULL);
+    WANT(kc_sums_new_by_mode(NULL, 12, SEED, 8, KC_MAX_THETA, 1) == KC_INVALID_ARGUMENT && kc_sums_union_new_by_mode(NULL, 12, SEED, 8, KC_MAX_THETA, 1) == KC_INVALID_ARGUMENT);
+    WANT(kc_sums_intersection_new_by_mode(NULL, SEED, 1) == KC_INVALID_ARGUMENT);
+    WANT(kc_sums_new(&b, 12, SEED) == KC_OK && kc_sums_add_u64(&b, 5, 7) == KC_OK && kc_sums_add_u64(&b, 8, 1) == KC_OK && kc_sums_image(&b, b_image, sizeof b_image, &b_length) == KC_OK);
+    for (uint32_t mode = 0; mode < 3; mode++) {
+        WANT(kc_sums_new_by_mode(&a, 12, SEED, 2, KC_MAX_THETA, mode) == KC_OK && kc_sums_new_by_mode(&a, 12, SEED, 2, KC_MAX_THETA, mode) == KC_INVALID_ARGUMENT);
+        WANT(kc_sums_add_u64(&a, 5, 3) == KC_OK && kc_sums_add_u64(&a, 5, 9) == KC_OK && kc_sums_add_u64(&a, 6, 4) == KC_OK);
+        WANT(kc_sums_compact(&a, &c) == KC_OK && sum_of(&c, 5) == in_sketch[mode] && sum_of(&c, 6) == 4);
+        WANT(kc_sums_clone(&a, &copy) == KC_OK && kc_sums_add_u64(&copy, 5, 1) == KC_OK && kc_sums_compact(&copy, &r) == KC_OK);
+        WANT(sum_of(&r, 5) == in_copy[mode] && kc_compact_sums_free(&r) == KC_OK && kc_sums_free(&copy) == KC_OK);
+        WANT(kc_sums_union_new_by_mode(&u, 12, SEED, 8, KC_MAX_THETA, mode) == KC_OK && kc_sums_union_add_compact(&u, &c) == KC_OK && kc_sums_union_add(&u, &b) == KC_OK);
+        WANT(kc_sums_union_result(&u, &r) == KC_OK && sum_of(&r, 5) == in_both[mode] && sum_of(&r, 6) == 4 && sum_of(&r, 8) == 1 && kc_compact_sums_free(&r) == KC_OK);
+        WANT(kc_sums_intersection_new_by_mode(&i, SEED, mode) == KC_OK && kc_sums_intersection_add(&i, &a) == KC_OK && kc_sums_intersection_add_image(&i, b_image, b_length) == KC_OK);
+        WANT(kc_sums_intersection_result(&i, &r) == KC_OK && sum_of(&r, 5) == in_both[mode] && sum_of(&r, 6) == 0 && kc_compact_sums_free(&r) == KC_OK);
+        /* a sum of 2^64 or more is refused, no other number is; a sketch begins anew after a reset, a union too */
+        WANT(kc_sums_add_u64(&a, 6, UINT64_MAX) == (mode == 0 ? KC_POLICY : KC_OK) && kc_sums_union_reset(&u) == KC_OK && kc_sums_union_add(&u, &b) == KC_OK);
+        WANT(kc_sums_reset(&a) == KC_OK && kc_sums_add_u64(&a, 5, 9) == KC_OK && kc_sums_add_u64(&a, 5, 3) == KC_OK && kc_sums_union_add(&u, &a) == KC_OK);
+        WANT(kc_sums_union_result(&u, &r) == KC_OK && sum_of(&r, 5) == in_both[mode] && sum_of(&r, 6) == 0 && kc_compact_sums_free(&r) == KC_OK);
+        WANT(kc_sums_union_image(&u, out, sizeof out, &length) == KC_OK && kc_sums_union_free(&u) == KC_OK && kc_sums_intersection_free(&i) == KC_OK);
+        WANT(kc_compact_sums_free(&c) == KC_OK && kc_sums_free(&a) == KC_OK);
+    }
+    WANT(kc_sums_free(&b) == KC_OK);
+}
+
 /* Whether two sketches have one state and the same sums, in any order. Both are freed. */
 static int have_same_sums(kc_compact_sums *a, kc_compact_sums *b) {
     static uint64_t listed[8192], sums_listed[8192];
@@ -862,9 +899,9 @@ static const struct { int place, byte; size_t count; uint32_t flaw, found; uint6
     {1, 2, 0, KC_FLAW_DAMAGED, 0, 40, KC_FLAW_VERSION, 2, 0},
     {5, 0x1b, 0, KC_FLAW_BIG_ENDIAN, 0, 40, KC_FLAW_BIG_ENDIAN, 0, 64},
     {6, 0, 0, KC_FLAW_SEED, 0, 40, KC_FLAW_SEED, 0, 64},
-    {0, 0, 0, KC_FLAW_DAMAGED, 0, 0, KC_FLAW_DAMAGED, 0, 0},
-    {0, 4, 0, KC_FLAW_DAMAGED, 0, 0, KC_FLAW_DAMAGED, 0, 0},
-    {3, 2, 0, KC_FLAW_DAMAGED, 0, 40, KC_FLAW_DAMAGED, 0, 0},
+    {0, 0, 0, KC_FLAW_MALFORMED, 0, 0, KC_FLAW_MALFORMED, 0, 0},
+    {0, 4, 0, KC_FLAW_MALFORMED, 0, 0, KC_FLAW_MALFORMED, 0, 0},
+    {3, 2, 0, KC_FLAW_DAMAGED, 0, 40, KC_FLAW_MALFORMED, 0, 0},
 };
 
 static int finds(kc_finding it, uint32_t flaw, uint32_t found, uint64_t length) {
@@ -892,6 +929,9 @@ static void flaws(void) {
     }
     WANT(kc_image_flaw("0103030000Cc93ff", 16, SEED, &it) == KC_OK && it.flaw == KC_FLAW_HEXADECIMAL && it.found == 0);
     WANT(kc_sums_image_flaw("0103030000Cc93ff", 16, SEED, &it) == KC_OK && it.flaw == KC_FLAW_HEXADECIMAL && it.found == 0);
+    /* one hash and theta 0 */
+    static const unsigned char no_theta[] = {3, 3, 3, 0, 0, 0x1a, 0xcc, 0x93, 1, 0, 0, 0, 0, 0, 0, 0, 0, 0, 0, 0, 0, 0, 0, 0, 7, 0, 0, 0, 0, 0, 0, 0};
+    WANT(kc_image_flaw(no_theta, sizeof no_theta, SEED, &it) == KC_OK && finds(it, KC_FLAW_THETA, 0, sizeof no_theta));
     /* an empty sketch has no seed that is checked, and its image eight bytes */
     WANT(kc_theta_reset(&s) == KC_OK && kc_theta_image(&s, image, 47, &length) == KC_OK && kc_image_flaw(image, 9, 123, &it) == KC_OK);
     WANT(finds(it, KC_FLAW_LONGER, 0, 8));
@@ -902,10 +942,10 @@ static void flaws(void) {
     WANT(kc_sums_image_flaw(NULL, 8, SEED, &it) == KC_INVALID_ARGUMENT && kc_sums_image_flaw(image, 8, SEED, NULL) == KC_INVALID_ARGUMENT);
     WANT(finds(it, 7, 7, 7));
     WANT(kc_image_flaw(NULL, 0, SEED, &it) == KC_OK && finds(it, KC_FLAW_SHORT, 0, 0));
-    for (uint32_t flaw = KC_FLAW_HEXADECIMAL; flaw <= KC_FLAW_DAMAGED; flaw++) {
+    for (uint32_t flaw = KC_FLAW_HEXADECIMAL; flaw <= KC_FLAW_THETA; flaw++) {
         WANT(strlen(kc_flaw_text(flaw)) > 10 && strcmp(kc_flaw_text(flaw), kc_flaw_text(0)) != 0);
     }
-    WANT(strcmp(kc_flaw_text(0), kc_flaw_text(KC_FLAW_DAMAGED + 1)) == 0);
+    WANT(strcmp(kc_flaw_text(0), kc_flaw_text(KC_FLAW_THETA + 1)) == 0);
     kc_theta_free(&s), kc_sums_free(&t);
 }
 
@@ -934,6 +974,7 @@ int main(void) {
     compact_sums();
     sums_unions();
     sums_intersections();
+    modes();
     sums_orders();
     estimates();
     total_texts();

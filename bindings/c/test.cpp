@@ -1,7 +1,9 @@
 /* Tries kaftanclay.hpp: each class, and each error by its exception. The last line is `test.cpp: N checks passed`. */
+#include <algorithm>
 #include <array>
 #include <cstdio>
 #include <kaftanclay.hpp>
+#include <map>
 
 using namespace kaftanclay;
 
@@ -166,6 +168,93 @@ static void test_sums() {
     HOLDS(both.result().state().is_empty());
 }
 
+using Values = std::map<std::uint64_t, std::uint64_t>;
+
+static std::uint64_t combined(Mode mode, std::uint64_t first, std::uint64_t second) {
+    return mode == Mode::sum ? first + second : mode == Mode::min ? std::min(first, second) : std::max(first, second);
+}
+
+static void put(Values &values, Mode mode, std::uint64_t key, std::uint64_t value) {
+    const auto [at, is_new] = values.emplace(key, value);
+    if (!is_new) at->second = combined(mode, at->second, value);
+}
+
+/* A sketch of 3000 values of few hundred keys from one on, and the same as a map. */
+static Sums of_values(Mode mode, std::uint64_t first, Values &values) {
+    Sums out(default_lg_k, default_seed, mode);
+    std::uint64_t random = first + 1;
+    for (int i = 0; i < 3000; i++) {
+        random = random * 6364136223846793005u + 1442695040888963407u;
+        const std::uint64_t key = first + (random >> 32) % 300, value = mode == Mode::sum ? random >> 40 : random;
+        out.add(key, value);
+        put(values, mode, key, value);
+    }
+    return out;
+}
+
+static bool has(const CompactSums &sketch, const Values &values) {
+    Values wanted, found;
+    const CompactSums::Entries entries = sketch.entries();
+    for (const auto &[key, value] : values) wanted[hash(key)] = value;
+    for (std::size_t i = 0; i < entries.hashes.size(); i++) found[entries.hashes[i]] = entries.sums[i];
+    return found == wanted;
+}
+
+static void test_mode(Mode mode) {
+    Values values, others, united, shared;
+    Sums sketch = of_values(mode, 0, values), other = of_values(mode, 150, others);
+    HOLDS(has(sketch.compact(), values) && has(other.compact(), others) && has(sketch.clone().compact(), values));
+    for (const Values &each : {values, others})
+        for (const auto &[key, value] : each) put(united, mode, key, value);
+    for (const auto &[key, value] : values)
+        if (others.count(key) != 0) shared[key] = combined(mode, value, others[key]);
+    HOLDS(values.size() > 250 && shared.size() > 100);
+    SumsUnion both(default_lg_k, default_seed, mode);
+    both.add(sketch);
+    both.add(other.compact());
+    HOLDS(has(both.result(), united));
+    SumsIntersection meets(default_seed, mode);
+    meets.add_image(sketch.image());
+    meets.add(other);
+    HOLDS(has(meets.result(), shared));
+    /* After a reset and in a clone the mode is as before. */
+    both.reset();
+    both.add(other);
+    both.add_image(sketch.image());
+    HOLDS(has(both.result(), united));
+    Sums copy = sketch.clone();
+    copy.add(std::uint64_t{0}, 1);
+    put(values, mode, 0, 1);
+    HOLDS(has(copy.compact(), values));
+    sketch.reset();
+    sketch.add(std::uint64_t{5}, 9);
+    sketch.add(std::uint64_t{5}, 7);
+    HOLDS(has(sketch.compact(), {{5, combined(mode, 9, 7)}}));
+    Sums sampled(4, default_seed, 2, KC_MAX_THETA / 2, mode);
+    for (std::uint64_t i = 0; i < 1000; i++) sampled.add(i, 3);
+    for (std::uint64_t i = 0; i < 1000; i++) sampled.add(i, 4);
+    const CompactSums::Entries entries = sampled.compact().entries();
+    HOLDS(entries.sums.size() >= 16 && std::all_of(entries.sums.begin(), entries.sums.end(), [&](auto it) { return it == combined(mode, 3, 4); }));
+}
+
+static void test_modes() {
+    for (Mode mode : {Mode::sum, Mode::min, Mode::max}) test_mode(mode);
+    const Mode none = static_cast<Mode>(3);
+    HOLDS(refusal([&] { Sums sketch(12, default_seed, none); }) == KC_INVALID_ARGUMENT);
+    HOLDS(refusal([&] { SumsUnion it(12, default_seed, none); }) == KC_INVALID_ARGUMENT);
+    HOLDS(refusal([&] { SumsIntersection it(default_seed, none); }) == KC_INVALID_ARGUMENT);
+    /* The greatest values are no sums. */
+    for (Mode mode : {Mode::min, Mode::max}) {
+        Sums full(12, default_seed, mode);
+        full.add("ann", UINT64_MAX);
+        full.add("ann", UINT64_MAX);
+        SumsUnion both(12, default_seed, mode);
+        both.add(full);
+        both.add(full);
+        HOLDS(full.total().retained().high == 0 && both.result().total().retained().low == UINT64_MAX);
+    }
+}
+
 static void test_refusals() {
     for (unsigned lg_k : {0u, 3u, 27u, 256u + 12u}) {
         HOLDS(refusal([&] { Theta sketch(lg_k); }) == KC_INVALID_ARGUMENT && refusal([&] { Union it(lg_k); }) == KC_INVALID_ARGUMENT);
@@ -207,6 +296,7 @@ int main() {
     test_moves();
     test_sets();
     test_sums();
+    test_modes();
     test_refusals();
     if (failed == 0) std::printf("test.cpp: %d checks passed\n", passed);
     return failed != 0;

@@ -3,7 +3,30 @@
 #include <stdio.h>
 #include <string.h>
 
+/* ---- Modes ---- */
+
+static const struct { const char *word; uint8_t mode; } modes[] = {{"sum", KC_SUM}, {"min", KC_MIN}, {"max", KC_MAX}};
+enum { COUNT_OF_MODES = sizeof modes / sizeof *modes };
+
+int mode_of(const char *word, size_t length, uint8_t *mode) {
+    for (int i = 0; i < COUNT_OF_MODES; i++) {
+        if (strlen(modes[i].word) != length || memcmp(modes[i].word, word, length) != 0) continue;
+        *mode = modes[i].mode;
+        return 1;
+    }
+    return 0;
+}
+
+const char *word_of(uint8_t mode) {
+    for (int i = 0; i < COUNT_OF_MODES; i++)
+        if (modes[i].mode == mode) return modes[i].word;
+    return "";
+}
+
 /* ---- Unions ---- */
+
+/* What kc_sums_new takes as the resize factor. */
+enum { RESIZE_FACTOR = 8 };
 
 uint8_t lg_k_for(uint64_t retained) {
     uint8_t lg_k = DEFAULT_LG_K;
@@ -32,6 +55,8 @@ static kc_status empty_sums(kc_compact_sums *out) {
 #define ROWS(name) kc_theta##name
 #define SKETCH(name) kc_compact##name
 #define OPERATOR(name) kc_union##name
+#define NEW_ROWS(rows, lg_k, mode) ((void)(mode), kc_theta_new(rows, lg_k, KC_DEFAULT_SEED))
+#define NEW_OPERATOR(part, lg_k, mode) ((void)(mode), kc_union_new(part, lg_k, KC_DEFAULT_SEED))
 #define EMPTY empty_result
 #include "union.inc"
 
@@ -49,6 +74,8 @@ kc_status union_add_number(union_group *group, uint64_t number) {
 #define ROWS(name) kc_sums##name
 #define SKETCH(name) kc_compact_sums##name
 #define OPERATOR(name) kc_sums_union##name
+#define NEW_ROWS(rows, lg_k, mode) kc_sums_new_by_mode(rows, lg_k, KC_DEFAULT_SEED, RESIZE_FACTOR, KC_MAX_THETA, mode)
+#define NEW_OPERATOR(part, lg_k, mode) kc_sums_union_new_by_mode(part, lg_k, KC_DEFAULT_SEED, RESIZE_FACTOR, KC_MAX_THETA, mode)
 #define EMPTY empty_sums
 #include "union.inc"
 
@@ -67,12 +94,14 @@ kc_status sums_add_number(sums_group *group, uint64_t number, uint64_t value) {
 #define MEET(name) meet_##name
 #define SKETCH(name) kc_compact##name
 #define INTERSECTION(name) kc_intersection##name
+#define NEW_INTERSECTION(part, mode) ((void)(mode), kc_intersection_new(part, KC_DEFAULT_SEED))
 #define EMPTY empty_result
 #include "meet.inc"
 
 #define MEET(name) sums_meet_##name
 #define SKETCH(name) kc_compact_sums##name
 #define INTERSECTION(name) kc_sums_intersection##name
+#define NEW_INTERSECTION(part, mode) kc_sums_intersection_new_by_mode(part, KC_DEFAULT_SEED, mode)
 #define EMPTY empty_sums
 #include "meet.inc"
 
@@ -107,7 +136,7 @@ kc_status sums_holds(sums_group *group, kc_compact_sums *sketch, int *holds) {
     if (status == KC_OK) status = kc_sums_difference(&key, sketch, KC_DEFAULT_SEED, &rest);
     if (status == KC_OK) status = kc_compact_sums_state(&rest, &state);
     if (status == KC_OK && state.retained == 0) {
-        status = kc_sums_intersection_new(&meet, KC_DEFAULT_SEED);
+        status = kc_sums_intersection_new_by_mode(&meet, KC_DEFAULT_SEED, group->mode);
         if (status == KC_OK) status = kc_sums_intersection_add_compact(&meet, &key);
         if (status == KC_OK) status = kc_sums_intersection_add_compact(&meet, sketch);
         if (status == KC_OK) status = kc_sums_intersection_result(&meet, &both);

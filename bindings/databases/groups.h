@@ -2,13 +2,23 @@
  * that they print. Nothing here knows a database.
  *
  * An answer depends on the rows of a group alone, not on their order or on how they were split over workers: unions are trimmed to
- * their nominal entries, and an intersection keeps its exact sketches apart (see meet_add). All sketches are of KC_DEFAULT_SEED. */
+ * their nominal entries, and an intersection keeps its exact sketches apart (see meet_add). All sketches are of KC_DEFAULT_SEED.
+ *
+ * A group of tuple sketches has a mode, KC_SUM, KC_MIN or KC_MAX: whether the summary of a key is the sum, the least or the greatest of
+ * its values, or of its summaries in several sketches. An image doesn't record it. Theta sketches have no summaries, so the mode of their
+ * groups has no effect. */
 #ifndef KAFTANCLAY_GROUPS_H
 #define KAFTANCLAY_GROUPS_H
 #include <kaftanclay.h>
 
 /* The binary logarithm of the nominal entries if none is passed, and its range. */
 enum { DEFAULT_LG_K = 12, LEAST_LG_K = 4, GREATEST_LG_K = 26 };
+
+/* What a message says of the words of modes, and the mode of a word: returns whether it is one of them. */
+#define MODES "'sum', 'min' or 'max'"
+int mode_of(const char *word, size_t length, uint8_t *mode);
+/* The word of a mode. */
+const char *word_of(uint8_t mode);
 
 /* The least lg_k, from DEFAULT_LG_K on, of a union that keeps so many hashes; at most GREATEST_LG_K. An image doesn't record its lg_k. */
 uint8_t lg_k_for(uint64_t retained);
@@ -20,12 +30,14 @@ uint8_t lg_k_for(uint64_t retained);
 enum { BY_LARGEST = 255, SMALL_LG_K = 16, PIECES = 2 };
 
 /* The union of keys and sketches. Keys are inserted into `rows`, sketches are merged into `parts`; each is made at its first use. Begin
- * with {0}, and set lg_k before the first call, to a number from LEAST_LG_K to GREATEST_LG_K or, for sketches alone, BY_LARGEST. */
+ * with {0}, and set lg_k and the mode before the first call: lg_k to a number from LEAST_LG_K to GREATEST_LG_K or, for sketches alone,
+ * BY_LARGEST. */
 typedef struct {
     kc_theta rows;
     kc_union parts[PIECES]; /* with BY_LARGEST the first is of small sketches, the second of others; else all are in the first */
     uint8_t lg_k;
     uint8_t largest; /* with BY_LARGEST the lg_k that the largest sketch needs; 0 before the first sketch */
+    uint8_t mode;
 } union_group;
 
 /* Insert a key. Refused with KC_OUT_OF_MEMORY, and with KC_INVALID_ARGUMENT if lg_k is out of range. */
@@ -38,8 +50,8 @@ kc_status union_add_sketch(union_group *group, kc_compact *sketch);
 kc_status union_result(union_group *group, kc_compact *out);
 /* The same, faster: nothing may be added to the group afterwards, but this may be called again. After KC_OUT_OF_MEMORY it is only freed. */
 kc_status union_end(union_group *group, kc_compact *out);
-/* The pieces of a union, from 0 to PIECES - 1, from which another of the same lg_k goes on: whether it has one, that piece as a sketch,
- * and the merge of one. `largest` is not in them. */
+/* The pieces of a union, from 0 to PIECES - 1, from which another of the same lg_k and mode goes on: whether it has one, that piece as a
+ * sketch, and the merge of one. `largest` is not in them. */
 int union_has_piece(const union_group *group, int place);
 kc_status union_piece(union_group *group, int place, kc_compact *out);
 kc_status union_add_piece(union_group *group, int place, kc_compact *sketch);
@@ -48,10 +60,11 @@ kc_status union_add_piece(union_group *group, int place, kc_compact *sketch);
 kc_status union_holds(union_group *group, kc_compact *sketch, int *holds);
 void union_free(union_group *group);
 
-/* The intersection of sketches. Begin with {0}. */
+/* The intersection of sketches. Begin with {0}, and set the mode before the first call. */
 enum { EXACT, SAMPLED };
 typedef struct {
     kc_intersection parts[PIECES]; /* of the sketches whose theta is KC_MAX_THETA, the empty ones among them, and of the others */
+    uint8_t mode;
 } meet_group;
 
 /* Intersects with a sketch, refused with KC_OUT_OF_MEMORY. An intersection in one piece would be the empty sketch only if exact sketches
@@ -67,13 +80,14 @@ int meet_has_piece(const meet_group *group, int place);
 kc_status meet_piece(meet_group *group, int place, kc_compact *out);
 void meet_free(meet_group *group);
 
-/* The union of keys with values, and of tuple sketches of sums, which adds up the sums of a key. Its calls are those of union_group; they
- * are also refused with KC_POLICY if the sum of a key would be 2^64 or more, and then the group has failed. */
+/* The union of keys with values, and of tuple sketches, which combines the summaries of a key by the mode. Its calls are those of
+ * union_group; with KC_SUM they are also refused with KC_POLICY if the sum of a key would be 2^64 or more, and then the group has failed. */
 typedef struct {
     kc_sums rows;
     kc_sums_union parts[PIECES];
     uint8_t lg_k;
     uint8_t largest;
+    uint8_t mode;
 } sums_group;
 
 /* Add a value at a key. */
@@ -85,14 +99,15 @@ kc_status sums_end(sums_group *group, kc_compact_sums *out);
 int sums_has_piece(const sums_group *group, int place);
 kc_status sums_piece(sums_group *group, int place, kc_compact_sums *out);
 kc_status sums_add_piece(sums_group *group, int place, kc_compact_sums *sketch);
-/* The same; but of a key that the sketch has the sum changes, so none may be below its theta. */
+/* The same; but of a key that the sketch has the summary may change, so none may be below its theta. */
 kc_status sums_holds(sums_group *group, kc_compact_sums *sketch, int *holds);
 void sums_free(sums_group *group);
 
-/* The intersection of tuple sketches of sums, which adds up the sums of a key, and its calls, as those of meet_group. sums_meet_add and
- * sums_meet_result are also refused with KC_POLICY if the sum of a key would be 2^64 or more; nothing has changed then. */
+/* The intersection of tuple sketches, which combines the summaries of a key by the mode, and its calls, as those of meet_group. With KC_SUM
+ * sums_meet_add and sums_meet_result are also refused with KC_POLICY if the sum of a key would be 2^64 or more; nothing has changed then. */
 typedef struct {
     kc_sums_intersection parts[PIECES];
+    uint8_t mode;
 } sums_meet_group;
 kc_status sums_meet_add(sums_meet_group *group, kc_compact_sums *sketch);
 int sums_meet_has_result(const sums_meet_group *group);

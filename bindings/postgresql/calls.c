@@ -59,6 +59,24 @@ uint8_t lg_k_at(FunctionCallInfo fcinfo, const char *type, int place, uint8_t mi
     return (uint8_t)lg_k;
 }
 
+/* A text of another collation than the key's may hide that the key's is nondeterministic (check_keys). */
+static void check_collation(FunctionCallInfo fcinfo, const char *type) {
+    if (OidIsValid(PG_GET_COLLATION())) return;
+    ereport(ERROR, errcode(ERRCODE_INDETERMINATE_COLLATION), errmsg("%s: the key and the mode have different collations", type),
+            errhint("Pass the mode as a constant."));
+}
+
+uint8_t mode_at(FunctionCallInfo fcinfo, const char *type, int place) {
+    uint8_t mode = KC_SUM;
+    if (PG_NARGS() <= place) return mode;
+    if (PG_ARGISNULL(place)) ereport(ERROR, errcode(ERRCODE_NULL_VALUE_NOT_ALLOWED), errmsg("%s: mode is NULL; it is " MODES, type));
+    check_collation(fcinfo, type);
+    const text *word = PG_GETARG_TEXT_PP(place);
+    if (!mode_of(VARDATA_ANY(word), VARSIZE_ANY_EXHDR(word), &mode))
+        ereport(ERROR, errcode(ERRCODE_INVALID_PARAMETER_VALUE), errmsg("%s: mode is '%s'; it is " MODES, type, text_to_cstring(word)));
+    return mode;
+}
+
 uint64_t value_at(FunctionCallInfo fcinfo, const char *type, int place) {
     int64 value = PG_GETARG_INT64(place);
     if (value < 0)
@@ -227,11 +245,18 @@ Datum unchanged(FunctionCallInfo fcinfo) {
     PG_RETURN_DATUM(PG_GETARG_DATUM(0));
 }
 
-void set_lg_k(uint8_t *lg_k, uint8_t now, const char *type) {
-    if (*lg_k == 0) *lg_k = now;
+void set_lg_k(uint8_t *lg_k, uint8_t now, bool is_first, const char *type) {
+    if (is_first) *lg_k = now;
     else if (*lg_k != now)
         ereport(ERROR, errcode(ERRCODE_INVALID_PARAMETER_VALUE), errmsg("%s: lg_k is %d and %d in one group", type, *lg_k, now),
                 errhint("Pass a constant."));
+}
+
+void set_mode(uint8_t *mode, uint8_t now, bool is_first, const char *type) {
+    if (is_first) *mode = now;
+    else if (*mode != now)
+        ereport(ERROR, errcode(ERRCODE_INVALID_PARAMETER_VALUE),
+                errmsg("%s: mode is '%s' and '%s' in one group", type, word_of(*mode), word_of(now)), errhint("Pass a constant."));
 }
 
 bytea *state_bytes(StateHead head, bytea *pieces[PIECES]) {

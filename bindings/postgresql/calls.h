@@ -26,6 +26,8 @@ HIDDEN void check_size(const char *type, uint64_t retained);
 
 /* The argument lg_k at a place. If the call has no such argument, it is `missing`. */
 HIDDEN uint8_t lg_k_at(FunctionCallInfo fcinfo, const char *type, int place, uint8_t missing);
+/* The argument mode of tuple sketches at a place; KC_SUM if the call has no such argument. */
+HIDDEN uint8_t mode_at(FunctionCallInfo fcinfo, const char *type, int place);
 /* The value of a tuple sketch at a place. */
 HIDDEN uint64_t value_at(FunctionCallInfo fcinfo, const char *type, int place);
 /* The deviations at the place 1; 2 without an argument. */
@@ -60,12 +62,13 @@ HIDDEN uint64_t float_bits(double x);
 HIDDEN MemoryContext aggregate_context(FunctionCallInfo fcinfo, const char *type);
 /* The first argument as it is, for a row that is passed over. */
 HIDDEN Datum unchanged(FunctionCallInfo fcinfo);
-/* Sets lg_k of a group, which has to be the same in all of its rows and parts. */
-HIDDEN void set_lg_k(uint8_t *lg_k, uint8_t now, const char *type);
+/* Sets lg_k of a group, or its mode, if this is its first row or part. Each has to be the same in all of them. */
+HIDDEN void set_lg_k(uint8_t *lg_k, uint8_t now, bool is_first, const char *type);
+HIDDEN void set_mode(uint8_t *mode, uint8_t now, bool is_first, const char *type);
 
 /* A state as bytes: this head, and the images of both pieces, each of which may be missing. */
 typedef struct {
-    uint64 lengths[PIECES], lg_k, largest; /* the last two are those of a union */
+    uint64 lengths[PIECES], mode, lg_k, largest; /* the last two are those of a union */
 } StateHead;
 HIDDEN bytea *state_bytes(StateHead head, bytea *pieces[PIECES]);
 /* The head of such bytes; sets *images to those behind it. */

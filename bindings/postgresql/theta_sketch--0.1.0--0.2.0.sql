@@ -22,7 +22,8 @@ CREATE FUNCTION theta_sketch_add(theta_sketch, bigint) RETURNS theta_sketch
 CREATE FUNCTION theta_sketch_add(theta_sketch, bigint, integer) RETURNS theta_sketch
     AS 'MODULE_PATHNAME', 'theta_sketch_insert_int8' LANGUAGE C IMMUTABLE PARALLEL SAFE COST 1000;
 
--- ---- Tuple sketches: an image, whose text is base64, with the sum of the values of each key ----
+-- ---- Tuple sketches: an image, whose text is base64, with the sum, the least or the greatest of the values of each key ----
+-- A mode says which, and so how unions and intersections combine two summaries of a key: 'sum', 'min' or 'max'. An image doesn't record it.
 
 CREATE TYPE tuple_sketch;
 
@@ -57,38 +58,56 @@ CREATE FUNCTION tuple_sketch_union(tuple_sketch, tuple_sketch) RETURNS tuple_ske
     AS 'MODULE_PATHNAME', 'tuple_sketch_union' LANGUAGE C IMMUTABLE PARALLEL SAFE COST 1000;
 CREATE FUNCTION tuple_sketch_union(tuple_sketch, tuple_sketch, integer) RETURNS tuple_sketch
     AS 'MODULE_PATHNAME', 'tuple_sketch_union' LANGUAGE C IMMUTABLE PARALLEL SAFE COST 1000;
+CREATE FUNCTION tuple_sketch_union(tuple_sketch, tuple_sketch, integer, text) RETURNS tuple_sketch
+    AS 'MODULE_PATHNAME', 'tuple_sketch_union' LANGUAGE C IMMUTABLE PARALLEL SAFE COST 1000;
 CREATE FUNCTION tuple_sketch_intersection(tuple_sketch, tuple_sketch) RETURNS tuple_sketch
     AS 'MODULE_PATHNAME', 'tuple_sketch_intersection' LANGUAGE C IMMUTABLE STRICT PARALLEL SAFE COST 1000;
+CREATE FUNCTION tuple_sketch_intersection(tuple_sketch, tuple_sketch, text) RETURNS tuple_sketch
+    AS 'MODULE_PATHNAME', 'tuple_sketch_intersection' LANGUAGE C IMMUTABLE PARALLEL SAFE COST 1000;
 CREATE FUNCTION tuple_sketch_a_not_b(tuple_sketch, tuple_sketch) RETURNS tuple_sketch
     AS 'MODULE_PATHNAME', 'tuple_sketch_a_not_b' LANGUAGE C IMMUTABLE STRICT PARALLEL SAFE COST 1000;
 CREATE FUNCTION tuple_sketch_add(tuple_sketch, text, bigint) RETURNS tuple_sketch
     AS 'MODULE_PATHNAME', 'tuple_sketch_insert_bytes' LANGUAGE C IMMUTABLE PARALLEL SAFE COST 1000;
 CREATE FUNCTION tuple_sketch_add(tuple_sketch, text, bigint, integer) RETURNS tuple_sketch
     AS 'MODULE_PATHNAME', 'tuple_sketch_insert_bytes' LANGUAGE C IMMUTABLE PARALLEL SAFE COST 1000;
+CREATE FUNCTION tuple_sketch_add(tuple_sketch, text, bigint, integer, text) RETURNS tuple_sketch
+    AS 'MODULE_PATHNAME', 'tuple_sketch_insert_bytes' LANGUAGE C IMMUTABLE PARALLEL SAFE COST 1000;
 CREATE FUNCTION tuple_sketch_add(tuple_sketch, bytea, bigint) RETURNS tuple_sketch
     AS 'MODULE_PATHNAME', 'tuple_sketch_insert_bytes' LANGUAGE C IMMUTABLE PARALLEL SAFE COST 1000;
 CREATE FUNCTION tuple_sketch_add(tuple_sketch, bytea, bigint, integer) RETURNS tuple_sketch
     AS 'MODULE_PATHNAME', 'tuple_sketch_insert_bytes' LANGUAGE C IMMUTABLE PARALLEL SAFE COST 1000;
+CREATE FUNCTION tuple_sketch_add(tuple_sketch, bytea, bigint, integer, text) RETURNS tuple_sketch
+    AS 'MODULE_PATHNAME', 'tuple_sketch_insert_bytes' LANGUAGE C IMMUTABLE PARALLEL SAFE COST 1000;
 CREATE FUNCTION tuple_sketch_add(tuple_sketch, bigint, bigint) RETURNS tuple_sketch
     AS 'MODULE_PATHNAME', 'tuple_sketch_insert_int8' LANGUAGE C IMMUTABLE PARALLEL SAFE COST 1000;
 CREATE FUNCTION tuple_sketch_add(tuple_sketch, bigint, bigint, integer) RETURNS tuple_sketch
+    AS 'MODULE_PATHNAME', 'tuple_sketch_insert_int8' LANGUAGE C IMMUTABLE PARALLEL SAFE COST 1000;
+CREATE FUNCTION tuple_sketch_add(tuple_sketch, bigint, bigint, integer, text) RETURNS tuple_sketch
     AS 'MODULE_PATHNAME', 'tuple_sketch_insert_int8' LANGUAGE C IMMUTABLE PARALLEL SAFE COST 1000;
 
 CREATE FUNCTION tuple_sketch_add_bytes(internal, text, bigint) RETURNS internal
     AS 'MODULE_PATHNAME', 'tuple_sketch_add_bytes' LANGUAGE C IMMUTABLE PARALLEL SAFE COST 2;
 CREATE FUNCTION tuple_sketch_add_bytes(internal, text, bigint, integer) RETURNS internal
     AS 'MODULE_PATHNAME', 'tuple_sketch_add_bytes' LANGUAGE C IMMUTABLE PARALLEL SAFE COST 2;
+CREATE FUNCTION tuple_sketch_add_bytes(internal, text, bigint, integer, text) RETURNS internal
+    AS 'MODULE_PATHNAME', 'tuple_sketch_add_bytes' LANGUAGE C IMMUTABLE PARALLEL SAFE COST 2;
 CREATE FUNCTION tuple_sketch_add_bytes(internal, bytea, bigint) RETURNS internal
     AS 'MODULE_PATHNAME', 'tuple_sketch_add_bytes' LANGUAGE C IMMUTABLE PARALLEL SAFE COST 2;
 CREATE FUNCTION tuple_sketch_add_bytes(internal, bytea, bigint, integer) RETURNS internal
+    AS 'MODULE_PATHNAME', 'tuple_sketch_add_bytes' LANGUAGE C IMMUTABLE PARALLEL SAFE COST 2;
+CREATE FUNCTION tuple_sketch_add_bytes(internal, bytea, bigint, integer, text) RETURNS internal
     AS 'MODULE_PATHNAME', 'tuple_sketch_add_bytes' LANGUAGE C IMMUTABLE PARALLEL SAFE COST 2;
 CREATE FUNCTION tuple_sketch_add_int8(internal, bigint, bigint) RETURNS internal
     AS 'MODULE_PATHNAME', 'tuple_sketch_add_int8' LANGUAGE C IMMUTABLE PARALLEL SAFE COST 2;
 CREATE FUNCTION tuple_sketch_add_int8(internal, bigint, bigint, integer) RETURNS internal
     AS 'MODULE_PATHNAME', 'tuple_sketch_add_int8' LANGUAGE C IMMUTABLE PARALLEL SAFE COST 2;
+CREATE FUNCTION tuple_sketch_add_int8(internal, bigint, bigint, integer, text) RETURNS internal
+    AS 'MODULE_PATHNAME', 'tuple_sketch_add_int8' LANGUAGE C IMMUTABLE PARALLEL SAFE COST 2;
 CREATE FUNCTION tuple_sketch_add_sketch(internal, tuple_sketch) RETURNS internal
     AS 'MODULE_PATHNAME', 'tuple_sketch_add_sketch' LANGUAGE C IMMUTABLE PARALLEL SAFE COST 1000;
 CREATE FUNCTION tuple_sketch_add_sketch(internal, tuple_sketch, integer) RETURNS internal
+    AS 'MODULE_PATHNAME', 'tuple_sketch_add_sketch' LANGUAGE C IMMUTABLE PARALLEL SAFE COST 1000;
+CREATE FUNCTION tuple_sketch_add_sketch(internal, tuple_sketch, integer, text) RETURNS internal
     AS 'MODULE_PATHNAME', 'tuple_sketch_add_sketch' LANGUAGE C IMMUTABLE PARALLEL SAFE COST 1000;
 CREATE FUNCTION tuple_sketch_combine(internal, internal) RETURNS internal
     AS 'MODULE_PATHNAME', 'tuple_sketch_combine' LANGUAGE C IMMUTABLE PARALLEL SAFE COST 1000;
@@ -104,10 +123,16 @@ CREATE AGGREGATE tuple_sketch_build(text, bigint) (
 CREATE AGGREGATE tuple_sketch_build(text, bigint, integer) (
     SFUNC = tuple_sketch_add_bytes, STYPE = internal, FINALFUNC = tuple_sketch_final, COMBINEFUNC = tuple_sketch_combine,
     SERIALFUNC = tuple_sketch_serialize, DESERIALFUNC = tuple_sketch_deserialize, PARALLEL = SAFE);
+CREATE AGGREGATE tuple_sketch_build(text, bigint, integer, text) (
+    SFUNC = tuple_sketch_add_bytes, STYPE = internal, FINALFUNC = tuple_sketch_final, COMBINEFUNC = tuple_sketch_combine,
+    SERIALFUNC = tuple_sketch_serialize, DESERIALFUNC = tuple_sketch_deserialize, PARALLEL = SAFE);
 CREATE AGGREGATE tuple_sketch_build(bytea, bigint) (
     SFUNC = tuple_sketch_add_bytes, STYPE = internal, FINALFUNC = tuple_sketch_final, COMBINEFUNC = tuple_sketch_combine,
     SERIALFUNC = tuple_sketch_serialize, DESERIALFUNC = tuple_sketch_deserialize, PARALLEL = SAFE);
 CREATE AGGREGATE tuple_sketch_build(bytea, bigint, integer) (
+    SFUNC = tuple_sketch_add_bytes, STYPE = internal, FINALFUNC = tuple_sketch_final, COMBINEFUNC = tuple_sketch_combine,
+    SERIALFUNC = tuple_sketch_serialize, DESERIALFUNC = tuple_sketch_deserialize, PARALLEL = SAFE);
+CREATE AGGREGATE tuple_sketch_build(bytea, bigint, integer, text) (
     SFUNC = tuple_sketch_add_bytes, STYPE = internal, FINALFUNC = tuple_sketch_final, COMBINEFUNC = tuple_sketch_combine,
     SERIALFUNC = tuple_sketch_serialize, DESERIALFUNC = tuple_sketch_deserialize, PARALLEL = SAFE);
 CREATE AGGREGATE tuple_sketch_build(bigint, bigint) (
@@ -116,13 +141,21 @@ CREATE AGGREGATE tuple_sketch_build(bigint, bigint) (
 CREATE AGGREGATE tuple_sketch_build(bigint, bigint, integer) (
     SFUNC = tuple_sketch_add_int8, STYPE = internal, FINALFUNC = tuple_sketch_final, COMBINEFUNC = tuple_sketch_combine,
     SERIALFUNC = tuple_sketch_serialize, DESERIALFUNC = tuple_sketch_deserialize, PARALLEL = SAFE);
+CREATE AGGREGATE tuple_sketch_build(bigint, bigint, integer, text) (
+    SFUNC = tuple_sketch_add_int8, STYPE = internal, FINALFUNC = tuple_sketch_final, COMBINEFUNC = tuple_sketch_combine,
+    SERIALFUNC = tuple_sketch_serialize, DESERIALFUNC = tuple_sketch_deserialize, PARALLEL = SAFE);
 CREATE AGGREGATE tuple_sketch_union(tuple_sketch) (
     SFUNC = tuple_sketch_add_sketch, STYPE = internal, FINALFUNC = tuple_sketch_final, COMBINEFUNC = tuple_sketch_combine,
     SERIALFUNC = tuple_sketch_serialize, DESERIALFUNC = tuple_sketch_deserialize, PARALLEL = SAFE);
 CREATE AGGREGATE tuple_sketch_union(tuple_sketch, integer) (
     SFUNC = tuple_sketch_add_sketch, STYPE = internal, FINALFUNC = tuple_sketch_final, COMBINEFUNC = tuple_sketch_combine,
     SERIALFUNC = tuple_sketch_serialize, DESERIALFUNC = tuple_sketch_deserialize, PARALLEL = SAFE);
+CREATE AGGREGATE tuple_sketch_union(tuple_sketch, integer, text) (
+    SFUNC = tuple_sketch_add_sketch, STYPE = internal, FINALFUNC = tuple_sketch_final, COMBINEFUNC = tuple_sketch_combine,
+    SERIALFUNC = tuple_sketch_serialize, DESERIALFUNC = tuple_sketch_deserialize, PARALLEL = SAFE);
 CREATE FUNCTION tuple_sketch_meet(internal, tuple_sketch) RETURNS internal
+    AS 'MODULE_PATHNAME', 'tuple_sketch_meet' LANGUAGE C IMMUTABLE PARALLEL SAFE COST 1000;
+CREATE FUNCTION tuple_sketch_meet(internal, tuple_sketch, text) RETURNS internal
     AS 'MODULE_PATHNAME', 'tuple_sketch_meet' LANGUAGE C IMMUTABLE PARALLEL SAFE COST 1000;
 CREATE FUNCTION tuple_sketch_meet_combine(internal, internal) RETURNS internal
     AS 'MODULE_PATHNAME', 'tuple_sketch_meet_combine' LANGUAGE C IMMUTABLE PARALLEL SAFE COST 1000;
@@ -135,6 +168,9 @@ CREATE FUNCTION tuple_sketch_meet_final(internal) RETURNS tuple_sketch
 CREATE AGGREGATE tuple_sketch_intersection(tuple_sketch) (
     SFUNC = tuple_sketch_meet, STYPE = internal, FINALFUNC = tuple_sketch_meet_final, COMBINEFUNC = tuple_sketch_meet_combine,
     SERIALFUNC = tuple_sketch_meet_serialize, DESERIALFUNC = tuple_sketch_meet_deserialize, PARALLEL = SAFE);
+CREATE AGGREGATE tuple_sketch_intersection(tuple_sketch, text) (
+    SFUNC = tuple_sketch_meet, STYPE = internal, FINALFUNC = tuple_sketch_meet_final, COMBINEFUNC = tuple_sketch_meet_combine,
+    SERIALFUNC = tuple_sketch_meet_serialize, DESERIALFUNC = tuple_sketch_meet_deserialize, PARALLEL = SAFE);
 
 -- ---- Keys that are hashed by their text: that of x::text with DateStyle ISO and TimeZone UTC ----
 
@@ -145,6 +181,8 @@ CREATE FUNCTION theta_sketch_add_text(internal, anyelement, integer) RETURNS int
 CREATE FUNCTION tuple_sketch_add_text(internal, anyelement, bigint) RETURNS internal
     AS 'MODULE_PATHNAME', 'tuple_sketch_add_text' LANGUAGE C IMMUTABLE PARALLEL SAFE COST 10;
 CREATE FUNCTION tuple_sketch_add_text(internal, anyelement, bigint, integer) RETURNS internal
+    AS 'MODULE_PATHNAME', 'tuple_sketch_add_text' LANGUAGE C IMMUTABLE PARALLEL SAFE COST 10;
+CREATE FUNCTION tuple_sketch_add_text(internal, anyelement, bigint, integer, text) RETURNS internal
     AS 'MODULE_PATHNAME', 'tuple_sketch_add_text' LANGUAGE C IMMUTABLE PARALLEL SAFE COST 10;
 CREATE AGGREGATE theta_sketch_build(boolean) (
     SFUNC = theta_sketch_add_text, STYPE = internal, FINALFUNC = theta_sketch_final, COMBINEFUNC = theta_sketch_combine,
@@ -170,7 +208,12 @@ CREATE FUNCTION tuple_sketch_add(tuple_sketch, boolean, bigint) RETURNS tuple_sk
 CREATE AGGREGATE tuple_sketch_build(boolean, bigint, integer) (
     SFUNC = tuple_sketch_add_text, STYPE = internal, FINALFUNC = tuple_sketch_final, COMBINEFUNC = tuple_sketch_combine,
     SERIALFUNC = tuple_sketch_serialize, DESERIALFUNC = tuple_sketch_deserialize, PARALLEL = SAFE);
+CREATE AGGREGATE tuple_sketch_build(boolean, bigint, integer, text) (
+    SFUNC = tuple_sketch_add_text, STYPE = internal, FINALFUNC = tuple_sketch_final, COMBINEFUNC = tuple_sketch_combine,
+    SERIALFUNC = tuple_sketch_serialize, DESERIALFUNC = tuple_sketch_deserialize, PARALLEL = SAFE);
 CREATE FUNCTION tuple_sketch_add(tuple_sketch, boolean, bigint, integer) RETURNS tuple_sketch
+    AS 'MODULE_PATHNAME', 'tuple_sketch_insert_text' LANGUAGE C IMMUTABLE PARALLEL SAFE COST 1000;
+CREATE FUNCTION tuple_sketch_add(tuple_sketch, boolean, bigint, integer, text) RETURNS tuple_sketch
     AS 'MODULE_PATHNAME', 'tuple_sketch_insert_text' LANGUAGE C IMMUTABLE PARALLEL SAFE COST 1000;
 CREATE AGGREGATE theta_sketch_build(date) (
     SFUNC = theta_sketch_add_text, STYPE = internal, FINALFUNC = theta_sketch_final, COMBINEFUNC = theta_sketch_combine,
@@ -196,7 +239,12 @@ CREATE FUNCTION tuple_sketch_add(tuple_sketch, date, bigint) RETURNS tuple_sketc
 CREATE AGGREGATE tuple_sketch_build(date, bigint, integer) (
     SFUNC = tuple_sketch_add_text, STYPE = internal, FINALFUNC = tuple_sketch_final, COMBINEFUNC = tuple_sketch_combine,
     SERIALFUNC = tuple_sketch_serialize, DESERIALFUNC = tuple_sketch_deserialize, PARALLEL = SAFE);
+CREATE AGGREGATE tuple_sketch_build(date, bigint, integer, text) (
+    SFUNC = tuple_sketch_add_text, STYPE = internal, FINALFUNC = tuple_sketch_final, COMBINEFUNC = tuple_sketch_combine,
+    SERIALFUNC = tuple_sketch_serialize, DESERIALFUNC = tuple_sketch_deserialize, PARALLEL = SAFE);
 CREATE FUNCTION tuple_sketch_add(tuple_sketch, date, bigint, integer) RETURNS tuple_sketch
+    AS 'MODULE_PATHNAME', 'tuple_sketch_insert_text' LANGUAGE C IMMUTABLE PARALLEL SAFE COST 1000;
+CREATE FUNCTION tuple_sketch_add(tuple_sketch, date, bigint, integer, text) RETURNS tuple_sketch
     AS 'MODULE_PATHNAME', 'tuple_sketch_insert_text' LANGUAGE C IMMUTABLE PARALLEL SAFE COST 1000;
 CREATE AGGREGATE theta_sketch_build(timestamp) (
     SFUNC = theta_sketch_add_text, STYPE = internal, FINALFUNC = theta_sketch_final, COMBINEFUNC = theta_sketch_combine,
@@ -222,7 +270,12 @@ CREATE FUNCTION tuple_sketch_add(tuple_sketch, timestamp, bigint) RETURNS tuple_
 CREATE AGGREGATE tuple_sketch_build(timestamp, bigint, integer) (
     SFUNC = tuple_sketch_add_text, STYPE = internal, FINALFUNC = tuple_sketch_final, COMBINEFUNC = tuple_sketch_combine,
     SERIALFUNC = tuple_sketch_serialize, DESERIALFUNC = tuple_sketch_deserialize, PARALLEL = SAFE);
+CREATE AGGREGATE tuple_sketch_build(timestamp, bigint, integer, text) (
+    SFUNC = tuple_sketch_add_text, STYPE = internal, FINALFUNC = tuple_sketch_final, COMBINEFUNC = tuple_sketch_combine,
+    SERIALFUNC = tuple_sketch_serialize, DESERIALFUNC = tuple_sketch_deserialize, PARALLEL = SAFE);
 CREATE FUNCTION tuple_sketch_add(tuple_sketch, timestamp, bigint, integer) RETURNS tuple_sketch
+    AS 'MODULE_PATHNAME', 'tuple_sketch_insert_text' LANGUAGE C IMMUTABLE PARALLEL SAFE COST 1000;
+CREATE FUNCTION tuple_sketch_add(tuple_sketch, timestamp, bigint, integer, text) RETURNS tuple_sketch
     AS 'MODULE_PATHNAME', 'tuple_sketch_insert_text' LANGUAGE C IMMUTABLE PARALLEL SAFE COST 1000;
 CREATE AGGREGATE theta_sketch_build(timestamptz) (
     SFUNC = theta_sketch_add_text, STYPE = internal, FINALFUNC = theta_sketch_final, COMBINEFUNC = theta_sketch_combine,
@@ -248,7 +301,12 @@ CREATE FUNCTION tuple_sketch_add(tuple_sketch, timestamptz, bigint) RETURNS tupl
 CREATE AGGREGATE tuple_sketch_build(timestamptz, bigint, integer) (
     SFUNC = tuple_sketch_add_text, STYPE = internal, FINALFUNC = tuple_sketch_final, COMBINEFUNC = tuple_sketch_combine,
     SERIALFUNC = tuple_sketch_serialize, DESERIALFUNC = tuple_sketch_deserialize, PARALLEL = SAFE);
+CREATE AGGREGATE tuple_sketch_build(timestamptz, bigint, integer, text) (
+    SFUNC = tuple_sketch_add_text, STYPE = internal, FINALFUNC = tuple_sketch_final, COMBINEFUNC = tuple_sketch_combine,
+    SERIALFUNC = tuple_sketch_serialize, DESERIALFUNC = tuple_sketch_deserialize, PARALLEL = SAFE);
 CREATE FUNCTION tuple_sketch_add(tuple_sketch, timestamptz, bigint, integer) RETURNS tuple_sketch
+    AS 'MODULE_PATHNAME', 'tuple_sketch_insert_text' LANGUAGE C IMMUTABLE PARALLEL SAFE COST 1000;
+CREATE FUNCTION tuple_sketch_add(tuple_sketch, timestamptz, bigint, integer, text) RETURNS tuple_sketch
     AS 'MODULE_PATHNAME', 'tuple_sketch_insert_text' LANGUAGE C IMMUTABLE PARALLEL SAFE COST 1000;
 CREATE AGGREGATE theta_sketch_build(uuid) (
     SFUNC = theta_sketch_add_text, STYPE = internal, FINALFUNC = theta_sketch_final, COMBINEFUNC = theta_sketch_combine,
@@ -274,7 +332,12 @@ CREATE FUNCTION tuple_sketch_add(tuple_sketch, uuid, bigint) RETURNS tuple_sketc
 CREATE AGGREGATE tuple_sketch_build(uuid, bigint, integer) (
     SFUNC = tuple_sketch_add_text, STYPE = internal, FINALFUNC = tuple_sketch_final, COMBINEFUNC = tuple_sketch_combine,
     SERIALFUNC = tuple_sketch_serialize, DESERIALFUNC = tuple_sketch_deserialize, PARALLEL = SAFE);
+CREATE AGGREGATE tuple_sketch_build(uuid, bigint, integer, text) (
+    SFUNC = tuple_sketch_add_text, STYPE = internal, FINALFUNC = tuple_sketch_final, COMBINEFUNC = tuple_sketch_combine,
+    SERIALFUNC = tuple_sketch_serialize, DESERIALFUNC = tuple_sketch_deserialize, PARALLEL = SAFE);
 CREATE FUNCTION tuple_sketch_add(tuple_sketch, uuid, bigint, integer) RETURNS tuple_sketch
+    AS 'MODULE_PATHNAME', 'tuple_sketch_insert_text' LANGUAGE C IMMUTABLE PARALLEL SAFE COST 1000;
+CREATE FUNCTION tuple_sketch_add(tuple_sketch, uuid, bigint, integer, text) RETURNS tuple_sketch
     AS 'MODULE_PATHNAME', 'tuple_sketch_insert_text' LANGUAGE C IMMUTABLE PARALLEL SAFE COST 1000;
 CREATE AGGREGATE theta_sketch_build(inet) (
     SFUNC = theta_sketch_add_text, STYPE = internal, FINALFUNC = theta_sketch_final, COMBINEFUNC = theta_sketch_combine,
@@ -300,7 +363,12 @@ CREATE FUNCTION tuple_sketch_add(tuple_sketch, inet, bigint) RETURNS tuple_sketc
 CREATE AGGREGATE tuple_sketch_build(inet, bigint, integer) (
     SFUNC = tuple_sketch_add_text, STYPE = internal, FINALFUNC = tuple_sketch_final, COMBINEFUNC = tuple_sketch_combine,
     SERIALFUNC = tuple_sketch_serialize, DESERIALFUNC = tuple_sketch_deserialize, PARALLEL = SAFE);
+CREATE AGGREGATE tuple_sketch_build(inet, bigint, integer, text) (
+    SFUNC = tuple_sketch_add_text, STYPE = internal, FINALFUNC = tuple_sketch_final, COMBINEFUNC = tuple_sketch_combine,
+    SERIALFUNC = tuple_sketch_serialize, DESERIALFUNC = tuple_sketch_deserialize, PARALLEL = SAFE);
 CREATE FUNCTION tuple_sketch_add(tuple_sketch, inet, bigint, integer) RETURNS tuple_sketch
+    AS 'MODULE_PATHNAME', 'tuple_sketch_insert_text' LANGUAGE C IMMUTABLE PARALLEL SAFE COST 1000;
+CREATE FUNCTION tuple_sketch_add(tuple_sketch, inet, bigint, integer, text) RETURNS tuple_sketch
     AS 'MODULE_PATHNAME', 'tuple_sketch_insert_text' LANGUAGE C IMMUTABLE PARALLEL SAFE COST 1000;
 CREATE AGGREGATE theta_sketch_build(anyenum) (
     SFUNC = theta_sketch_add_text, STYPE = internal, FINALFUNC = theta_sketch_final, COMBINEFUNC = theta_sketch_combine,
@@ -326,7 +394,12 @@ CREATE FUNCTION tuple_sketch_add(tuple_sketch, anyenum, bigint) RETURNS tuple_sk
 CREATE AGGREGATE tuple_sketch_build(anyenum, bigint, integer) (
     SFUNC = tuple_sketch_add_text, STYPE = internal, FINALFUNC = tuple_sketch_final, COMBINEFUNC = tuple_sketch_combine,
     SERIALFUNC = tuple_sketch_serialize, DESERIALFUNC = tuple_sketch_deserialize, PARALLEL = SAFE);
+CREATE AGGREGATE tuple_sketch_build(anyenum, bigint, integer, text) (
+    SFUNC = tuple_sketch_add_text, STYPE = internal, FINALFUNC = tuple_sketch_final, COMBINEFUNC = tuple_sketch_combine,
+    SERIALFUNC = tuple_sketch_serialize, DESERIALFUNC = tuple_sketch_deserialize, PARALLEL = SAFE);
 CREATE FUNCTION tuple_sketch_add(tuple_sketch, anyenum, bigint, integer) RETURNS tuple_sketch
+    AS 'MODULE_PATHNAME', 'tuple_sketch_insert_text' LANGUAGE C IMMUTABLE PARALLEL SAFE COST 1000;
+CREATE FUNCTION tuple_sketch_add(tuple_sketch, anyenum, bigint, integer, text) RETURNS tuple_sketch
     AS 'MODULE_PATHNAME', 'tuple_sketch_insert_text' LANGUAGE C IMMUTABLE PARALLEL SAFE COST 1000;
 
 -- ---- Keys of numbers ----
@@ -340,6 +413,8 @@ CREATE FUNCTION theta_sketch_add_int2(internal, smallint, integer) RETURNS inter
 CREATE FUNCTION tuple_sketch_add_int2(internal, smallint, bigint) RETURNS internal
     AS 'MODULE_PATHNAME', 'tuple_sketch_add_int2' LANGUAGE C IMMUTABLE PARALLEL SAFE COST 2;
 CREATE FUNCTION tuple_sketch_add_int2(internal, smallint, bigint, integer) RETURNS internal
+    AS 'MODULE_PATHNAME', 'tuple_sketch_add_int2' LANGUAGE C IMMUTABLE PARALLEL SAFE COST 2;
+CREATE FUNCTION tuple_sketch_add_int2(internal, smallint, bigint, integer, text) RETURNS internal
     AS 'MODULE_PATHNAME', 'tuple_sketch_add_int2' LANGUAGE C IMMUTABLE PARALLEL SAFE COST 2;
 CREATE AGGREGATE theta_sketch_build(smallint) (
     SFUNC = theta_sketch_add_int2, STYPE = internal, FINALFUNC = theta_sketch_final, COMBINEFUNC = theta_sketch_combine,
@@ -365,7 +440,12 @@ CREATE FUNCTION tuple_sketch_add(tuple_sketch, smallint, bigint) RETURNS tuple_s
 CREATE AGGREGATE tuple_sketch_build(smallint, bigint, integer) (
     SFUNC = tuple_sketch_add_int2, STYPE = internal, FINALFUNC = tuple_sketch_final, COMBINEFUNC = tuple_sketch_combine,
     SERIALFUNC = tuple_sketch_serialize, DESERIALFUNC = tuple_sketch_deserialize, PARALLEL = SAFE);
+CREATE AGGREGATE tuple_sketch_build(smallint, bigint, integer, text) (
+    SFUNC = tuple_sketch_add_int2, STYPE = internal, FINALFUNC = tuple_sketch_final, COMBINEFUNC = tuple_sketch_combine,
+    SERIALFUNC = tuple_sketch_serialize, DESERIALFUNC = tuple_sketch_deserialize, PARALLEL = SAFE);
 CREATE FUNCTION tuple_sketch_add(tuple_sketch, smallint, bigint, integer) RETURNS tuple_sketch
+    AS 'MODULE_PATHNAME', 'tuple_sketch_insert_int2' LANGUAGE C IMMUTABLE PARALLEL SAFE COST 1000;
+CREATE FUNCTION tuple_sketch_add(tuple_sketch, smallint, bigint, integer, text) RETURNS tuple_sketch
     AS 'MODULE_PATHNAME', 'tuple_sketch_insert_int2' LANGUAGE C IMMUTABLE PARALLEL SAFE COST 1000;
 CREATE FUNCTION theta_sketch_add_int4(internal, integer) RETURNS internal
     AS 'MODULE_PATHNAME', 'theta_sketch_add_int4' LANGUAGE C IMMUTABLE PARALLEL SAFE COST 2;
@@ -374,6 +454,8 @@ CREATE FUNCTION theta_sketch_add_int4(internal, integer, integer) RETURNS intern
 CREATE FUNCTION tuple_sketch_add_int4(internal, integer, bigint) RETURNS internal
     AS 'MODULE_PATHNAME', 'tuple_sketch_add_int4' LANGUAGE C IMMUTABLE PARALLEL SAFE COST 2;
 CREATE FUNCTION tuple_sketch_add_int4(internal, integer, bigint, integer) RETURNS internal
+    AS 'MODULE_PATHNAME', 'tuple_sketch_add_int4' LANGUAGE C IMMUTABLE PARALLEL SAFE COST 2;
+CREATE FUNCTION tuple_sketch_add_int4(internal, integer, bigint, integer, text) RETURNS internal
     AS 'MODULE_PATHNAME', 'tuple_sketch_add_int4' LANGUAGE C IMMUTABLE PARALLEL SAFE COST 2;
 CREATE AGGREGATE theta_sketch_build(integer) (
     SFUNC = theta_sketch_add_int4, STYPE = internal, FINALFUNC = theta_sketch_final, COMBINEFUNC = theta_sketch_combine,
@@ -399,7 +481,12 @@ CREATE FUNCTION tuple_sketch_add(tuple_sketch, integer, bigint) RETURNS tuple_sk
 CREATE AGGREGATE tuple_sketch_build(integer, bigint, integer) (
     SFUNC = tuple_sketch_add_int4, STYPE = internal, FINALFUNC = tuple_sketch_final, COMBINEFUNC = tuple_sketch_combine,
     SERIALFUNC = tuple_sketch_serialize, DESERIALFUNC = tuple_sketch_deserialize, PARALLEL = SAFE);
+CREATE AGGREGATE tuple_sketch_build(integer, bigint, integer, text) (
+    SFUNC = tuple_sketch_add_int4, STYPE = internal, FINALFUNC = tuple_sketch_final, COMBINEFUNC = tuple_sketch_combine,
+    SERIALFUNC = tuple_sketch_serialize, DESERIALFUNC = tuple_sketch_deserialize, PARALLEL = SAFE);
 CREATE FUNCTION tuple_sketch_add(tuple_sketch, integer, bigint, integer) RETURNS tuple_sketch
+    AS 'MODULE_PATHNAME', 'tuple_sketch_insert_int4' LANGUAGE C IMMUTABLE PARALLEL SAFE COST 1000;
+CREATE FUNCTION tuple_sketch_add(tuple_sketch, integer, bigint, integer, text) RETURNS tuple_sketch
     AS 'MODULE_PATHNAME', 'tuple_sketch_insert_int4' LANGUAGE C IMMUTABLE PARALLEL SAFE COST 1000;
 CREATE FUNCTION theta_sketch_add_oid(internal, oid) RETURNS internal
     AS 'MODULE_PATHNAME', 'theta_sketch_add_oid' LANGUAGE C IMMUTABLE PARALLEL SAFE COST 2;
@@ -408,6 +495,8 @@ CREATE FUNCTION theta_sketch_add_oid(internal, oid, integer) RETURNS internal
 CREATE FUNCTION tuple_sketch_add_oid(internal, oid, bigint) RETURNS internal
     AS 'MODULE_PATHNAME', 'tuple_sketch_add_oid' LANGUAGE C IMMUTABLE PARALLEL SAFE COST 2;
 CREATE FUNCTION tuple_sketch_add_oid(internal, oid, bigint, integer) RETURNS internal
+    AS 'MODULE_PATHNAME', 'tuple_sketch_add_oid' LANGUAGE C IMMUTABLE PARALLEL SAFE COST 2;
+CREATE FUNCTION tuple_sketch_add_oid(internal, oid, bigint, integer, text) RETURNS internal
     AS 'MODULE_PATHNAME', 'tuple_sketch_add_oid' LANGUAGE C IMMUTABLE PARALLEL SAFE COST 2;
 CREATE AGGREGATE theta_sketch_build(oid) (
     SFUNC = theta_sketch_add_oid, STYPE = internal, FINALFUNC = theta_sketch_final, COMBINEFUNC = theta_sketch_combine,
@@ -433,7 +522,12 @@ CREATE FUNCTION tuple_sketch_add(tuple_sketch, oid, bigint) RETURNS tuple_sketch
 CREATE AGGREGATE tuple_sketch_build(oid, bigint, integer) (
     SFUNC = tuple_sketch_add_oid, STYPE = internal, FINALFUNC = tuple_sketch_final, COMBINEFUNC = tuple_sketch_combine,
     SERIALFUNC = tuple_sketch_serialize, DESERIALFUNC = tuple_sketch_deserialize, PARALLEL = SAFE);
+CREATE AGGREGATE tuple_sketch_build(oid, bigint, integer, text) (
+    SFUNC = tuple_sketch_add_oid, STYPE = internal, FINALFUNC = tuple_sketch_final, COMBINEFUNC = tuple_sketch_combine,
+    SERIALFUNC = tuple_sketch_serialize, DESERIALFUNC = tuple_sketch_deserialize, PARALLEL = SAFE);
 CREATE FUNCTION tuple_sketch_add(tuple_sketch, oid, bigint, integer) RETURNS tuple_sketch
+    AS 'MODULE_PATHNAME', 'tuple_sketch_insert_oid' LANGUAGE C IMMUTABLE PARALLEL SAFE COST 1000;
+CREATE FUNCTION tuple_sketch_add(tuple_sketch, oid, bigint, integer, text) RETURNS tuple_sketch
     AS 'MODULE_PATHNAME', 'tuple_sketch_insert_oid' LANGUAGE C IMMUTABLE PARALLEL SAFE COST 1000;
 CREATE FUNCTION theta_sketch_add_float8(internal, double precision) RETURNS internal
     AS 'MODULE_PATHNAME', 'theta_sketch_add_float8' LANGUAGE C IMMUTABLE PARALLEL SAFE COST 2;
@@ -442,6 +536,8 @@ CREATE FUNCTION theta_sketch_add_float8(internal, double precision, integer) RET
 CREATE FUNCTION tuple_sketch_add_float8(internal, double precision, bigint) RETURNS internal
     AS 'MODULE_PATHNAME', 'tuple_sketch_add_float8' LANGUAGE C IMMUTABLE PARALLEL SAFE COST 2;
 CREATE FUNCTION tuple_sketch_add_float8(internal, double precision, bigint, integer) RETURNS internal
+    AS 'MODULE_PATHNAME', 'tuple_sketch_add_float8' LANGUAGE C IMMUTABLE PARALLEL SAFE COST 2;
+CREATE FUNCTION tuple_sketch_add_float8(internal, double precision, bigint, integer, text) RETURNS internal
     AS 'MODULE_PATHNAME', 'tuple_sketch_add_float8' LANGUAGE C IMMUTABLE PARALLEL SAFE COST 2;
 CREATE AGGREGATE theta_sketch_build(double precision) (
     SFUNC = theta_sketch_add_float8, STYPE = internal, FINALFUNC = theta_sketch_final, COMBINEFUNC = theta_sketch_combine,
@@ -467,7 +563,12 @@ CREATE FUNCTION tuple_sketch_add(tuple_sketch, double precision, bigint) RETURNS
 CREATE AGGREGATE tuple_sketch_build(double precision, bigint, integer) (
     SFUNC = tuple_sketch_add_float8, STYPE = internal, FINALFUNC = tuple_sketch_final, COMBINEFUNC = tuple_sketch_combine,
     SERIALFUNC = tuple_sketch_serialize, DESERIALFUNC = tuple_sketch_deserialize, PARALLEL = SAFE);
+CREATE AGGREGATE tuple_sketch_build(double precision, bigint, integer, text) (
+    SFUNC = tuple_sketch_add_float8, STYPE = internal, FINALFUNC = tuple_sketch_final, COMBINEFUNC = tuple_sketch_combine,
+    SERIALFUNC = tuple_sketch_serialize, DESERIALFUNC = tuple_sketch_deserialize, PARALLEL = SAFE);
 CREATE FUNCTION tuple_sketch_add(tuple_sketch, double precision, bigint, integer) RETURNS tuple_sketch
+    AS 'MODULE_PATHNAME', 'tuple_sketch_insert_float8' LANGUAGE C IMMUTABLE PARALLEL SAFE COST 1000;
+CREATE FUNCTION tuple_sketch_add(tuple_sketch, double precision, bigint, integer, text) RETURNS tuple_sketch
     AS 'MODULE_PATHNAME', 'tuple_sketch_insert_float8' LANGUAGE C IMMUTABLE PARALLEL SAFE COST 1000;
 CREATE AGGREGATE theta_sketch_build(numeric) (
     SFUNC = theta_sketch_add_text, STYPE = internal, FINALFUNC = theta_sketch_final, COMBINEFUNC = theta_sketch_combine,
@@ -493,7 +594,12 @@ CREATE FUNCTION tuple_sketch_add(tuple_sketch, numeric, bigint) RETURNS tuple_sk
 CREATE AGGREGATE tuple_sketch_build(numeric, bigint, integer) (
     SFUNC = tuple_sketch_add_text, STYPE = internal, FINALFUNC = tuple_sketch_final, COMBINEFUNC = tuple_sketch_combine,
     SERIALFUNC = tuple_sketch_serialize, DESERIALFUNC = tuple_sketch_deserialize, PARALLEL = SAFE);
+CREATE AGGREGATE tuple_sketch_build(numeric, bigint, integer, text) (
+    SFUNC = tuple_sketch_add_text, STYPE = internal, FINALFUNC = tuple_sketch_final, COMBINEFUNC = tuple_sketch_combine,
+    SERIALFUNC = tuple_sketch_serialize, DESERIALFUNC = tuple_sketch_deserialize, PARALLEL = SAFE);
 CREATE FUNCTION tuple_sketch_add(tuple_sketch, numeric, bigint, integer) RETURNS tuple_sketch
+    AS 'MODULE_PATHNAME', 'tuple_sketch_insert_text' LANGUAGE C IMMUTABLE PARALLEL SAFE COST 1000;
+CREATE FUNCTION tuple_sketch_add(tuple_sketch, numeric, bigint, integer, text) RETURNS tuple_sketch
     AS 'MODULE_PATHNAME', 'tuple_sketch_insert_text' LANGUAGE C IMMUTABLE PARALLEL SAFE COST 1000;
 
 -- ---- Comparisons: equal sketches have equal images, so these are PostgreSQL's own functions of bytes ----
@@ -586,7 +692,7 @@ ALTER FUNCTION theta_sketch_meet_final(internal) COST 1000;
 -- ---- What each is for ----
 
 COMMENT ON TYPE theta_sketch IS 'a sketch of keys';
-COMMENT ON TYPE tuple_sketch IS 'a sketch of keys, and of the sums of their values';
+COMMENT ON TYPE tuple_sketch IS 'a sketch of keys, and of the sum, the least or the greatest of the values of each';
 COMMENT ON FUNCTION theta_sketch_in(cstring) IS 'reads a sketch from base64';
 COMMENT ON FUNCTION theta_sketch_out(theta_sketch) IS 'writes a sketch in base64';
 COMMENT ON FUNCTION theta_sketch_recv(internal) IS 'reads the image of a sketch';
@@ -645,46 +751,61 @@ COMMENT ON FUNCTION tuple_sketch_recv(internal) IS 'reads the image of a sketch'
 COMMENT ON FUNCTION tuple_sketch_send(tuple_sketch) IS 'writes the image of a sketch';
 COMMENT ON FUNCTION tuple_sketch_from_bytea(bytea) IS 'reads the image of a sketch';
 COMMENT ON FUNCTION tuple_sketch_get_estimate(tuple_sketch) IS 'estimates how many different keys a sketch was given';
-COMMENT ON FUNCTION tuple_sketch_get_total(tuple_sketch) IS 'estimates the sum of all values that a sketch was given';
+COMMENT ON FUNCTION tuple_sketch_get_total(tuple_sketch) IS 'estimates the sum of the summaries of all keys, with mode sum that of all values';
 COMMENT ON FUNCTION tuple_sketch_get_bounds(tuple_sketch) IS 'a lower and an upper bound of the number of keys, by 1, 2 or 3 standard deviations (2)';
 COMMENT ON FUNCTION tuple_sketch_get_bounds(tuple_sketch, integer) IS 'a lower and an upper bound of the number of keys, by 1, 2 or 3 standard deviations (2)';
 COMMENT ON FUNCTION tuple_sketch_to_string(tuple_sketch) IS 'describes a sketch';
 COMMENT ON FUNCTION tuple_sketch_union(tuple_sketch, tuple_sketch) IS 'the union of two sketches, which adds up the sums of a key';
 COMMENT ON FUNCTION tuple_sketch_union(tuple_sketch, tuple_sketch, integer) IS 'the union of two sketches, which adds up the sums of a key, of 2^lg_k nominal entries';
+COMMENT ON FUNCTION tuple_sketch_union(tuple_sketch, tuple_sketch, integer, text) IS 'the union of two sketches, which combines the summaries of a key by mode, of 2^lg_k nominal entries';
 COMMENT ON FUNCTION tuple_sketch_intersection(tuple_sketch, tuple_sketch) IS 'the intersection of two sketches, which adds up the sums of a key';
+COMMENT ON FUNCTION tuple_sketch_intersection(tuple_sketch, tuple_sketch, text) IS 'the intersection of two sketches, which combines the summaries of a key by mode';
 COMMENT ON FUNCTION tuple_sketch_a_not_b(tuple_sketch, tuple_sketch) IS 'the first sketch without the keys of the second';
 COMMENT ON FUNCTION tuple_sketch_add(tuple_sketch, text, bigint) IS 'the sketch with a value added to the sum of a key';
 COMMENT ON FUNCTION tuple_sketch_add(tuple_sketch, text, bigint, integer) IS 'the sketch with a value added to the sum of a key, of 2^lg_k nominal entries';
+COMMENT ON FUNCTION tuple_sketch_add(tuple_sketch, text, bigint, integer, text) IS 'the sketch with a value of a key, combined by mode, of 2^lg_k nominal entries';
 COMMENT ON FUNCTION tuple_sketch_add(tuple_sketch, bytea, bigint) IS 'the sketch with a value added to the sum of a key';
 COMMENT ON FUNCTION tuple_sketch_add(tuple_sketch, bytea, bigint, integer) IS 'the sketch with a value added to the sum of a key, of 2^lg_k nominal entries';
+COMMENT ON FUNCTION tuple_sketch_add(tuple_sketch, bytea, bigint, integer, text) IS 'the sketch with a value of a key, combined by mode, of 2^lg_k nominal entries';
 COMMENT ON FUNCTION tuple_sketch_add(tuple_sketch, bigint, bigint) IS 'the sketch with a value added to the sum of a key';
 COMMENT ON FUNCTION tuple_sketch_add(tuple_sketch, bigint, bigint, integer) IS 'the sketch with a value added to the sum of a key, of 2^lg_k nominal entries';
+COMMENT ON FUNCTION tuple_sketch_add(tuple_sketch, bigint, bigint, integer, text) IS 'the sketch with a value of a key, combined by mode, of 2^lg_k nominal entries';
 COMMENT ON FUNCTION tuple_sketch_add_bytes(internal, text, bigint) IS 'adds a value of a key to a state';
 COMMENT ON FUNCTION tuple_sketch_add_bytes(internal, text, bigint, integer) IS 'adds a value of a key to a state';
+COMMENT ON FUNCTION tuple_sketch_add_bytes(internal, text, bigint, integer, text) IS 'adds a value of a key to a state';
 COMMENT ON FUNCTION tuple_sketch_add_bytes(internal, bytea, bigint) IS 'adds a value of a key to a state';
 COMMENT ON FUNCTION tuple_sketch_add_bytes(internal, bytea, bigint, integer) IS 'adds a value of a key to a state';
+COMMENT ON FUNCTION tuple_sketch_add_bytes(internal, bytea, bigint, integer, text) IS 'adds a value of a key to a state';
 COMMENT ON FUNCTION tuple_sketch_add_int8(internal, bigint, bigint) IS 'adds a value of a key to a state';
 COMMENT ON FUNCTION tuple_sketch_add_int8(internal, bigint, bigint, integer) IS 'adds a value of a key to a state';
+COMMENT ON FUNCTION tuple_sketch_add_int8(internal, bigint, bigint, integer, text) IS 'adds a value of a key to a state';
 COMMENT ON FUNCTION tuple_sketch_add_sketch(internal, tuple_sketch) IS 'adds a sketch to a state';
 COMMENT ON FUNCTION tuple_sketch_add_sketch(internal, tuple_sketch, integer) IS 'adds a sketch to a state';
+COMMENT ON FUNCTION tuple_sketch_add_sketch(internal, tuple_sketch, integer, text) IS 'adds a sketch to a state';
 COMMENT ON FUNCTION tuple_sketch_combine(internal, internal) IS 'merges two states';
 COMMENT ON FUNCTION tuple_sketch_serialize(internal) IS 'writes a state';
 COMMENT ON FUNCTION tuple_sketch_deserialize(bytea, internal) IS 'reads a state';
 COMMENT ON FUNCTION tuple_sketch_final(internal) IS 'the sketch of a state';
 COMMENT ON AGGREGATE tuple_sketch_build(text, bigint) IS 'the sketch of all keys and of the sums of their values';
 COMMENT ON AGGREGATE tuple_sketch_build(text, bigint, integer) IS 'the sketch of all keys and of the sums of their values, of 2^lg_k nominal entries';
+COMMENT ON AGGREGATE tuple_sketch_build(text, bigint, integer, text) IS 'the sketch of all keys, and of the sum, the least or the greatest of their values by mode, of 2^lg_k nominal entries';
 COMMENT ON AGGREGATE tuple_sketch_build(bytea, bigint) IS 'the sketch of all keys and of the sums of their values';
 COMMENT ON AGGREGATE tuple_sketch_build(bytea, bigint, integer) IS 'the sketch of all keys and of the sums of their values, of 2^lg_k nominal entries';
+COMMENT ON AGGREGATE tuple_sketch_build(bytea, bigint, integer, text) IS 'the sketch of all keys, and of the sum, the least or the greatest of their values by mode, of 2^lg_k nominal entries';
 COMMENT ON AGGREGATE tuple_sketch_build(bigint, bigint) IS 'the sketch of all keys and of the sums of their values';
 COMMENT ON AGGREGATE tuple_sketch_build(bigint, bigint, integer) IS 'the sketch of all keys and of the sums of their values, of 2^lg_k nominal entries';
+COMMENT ON AGGREGATE tuple_sketch_build(bigint, bigint, integer, text) IS 'the sketch of all keys, and of the sum, the least or the greatest of their values by mode, of 2^lg_k nominal entries';
 COMMENT ON AGGREGATE tuple_sketch_union(tuple_sketch) IS 'the union of all sketches, which adds up the sums of a key';
 COMMENT ON AGGREGATE tuple_sketch_union(tuple_sketch, integer) IS 'the union of all sketches, which adds up the sums of a key, of 2^lg_k nominal entries';
+COMMENT ON AGGREGATE tuple_sketch_union(tuple_sketch, integer, text) IS 'the union of all sketches, which combines the summaries of a key by mode, of 2^lg_k nominal entries';
 COMMENT ON FUNCTION tuple_sketch_meet(internal, tuple_sketch) IS 'intersects a state with a sketch';
+COMMENT ON FUNCTION tuple_sketch_meet(internal, tuple_sketch, text) IS 'intersects a state with a sketch';
 COMMENT ON FUNCTION tuple_sketch_meet_combine(internal, internal) IS 'intersects two states';
 COMMENT ON FUNCTION tuple_sketch_meet_serialize(internal) IS 'writes a state';
 COMMENT ON FUNCTION tuple_sketch_meet_deserialize(bytea, internal) IS 'reads a state';
 COMMENT ON FUNCTION tuple_sketch_meet_final(internal) IS 'the sketch of a state';
 COMMENT ON AGGREGATE tuple_sketch_intersection(tuple_sketch) IS 'the intersection of all sketches, which adds up the sums of a key';
+COMMENT ON AGGREGATE tuple_sketch_intersection(tuple_sketch, text) IS 'the intersection of all sketches, which combines the summaries of a key by mode';
 COMMENT ON FUNCTION theta_sketch_eq(theta_sketch, theta_sketch) IS 'whether two sketches are equal';
 COMMENT ON FUNCTION theta_sketch_ne(theta_sketch, theta_sketch) IS 'whether two sketches differ';
 COMMENT ON FUNCTION theta_sketch_lt(theta_sketch, theta_sketch) IS 'compares images';
@@ -707,6 +828,7 @@ COMMENT ON FUNCTION theta_sketch_add_text(internal, anyelement) IS 'adds a key t
 COMMENT ON FUNCTION theta_sketch_add_text(internal, anyelement, integer) IS 'adds a key to a state';
 COMMENT ON FUNCTION tuple_sketch_add_text(internal, anyelement, bigint) IS 'adds a value of a key to a state';
 COMMENT ON FUNCTION tuple_sketch_add_text(internal, anyelement, bigint, integer) IS 'adds a value of a key to a state';
+COMMENT ON FUNCTION tuple_sketch_add_text(internal, anyelement, bigint, integer, text) IS 'adds a value of a key to a state';
 COMMENT ON AGGREGATE theta_sketch_build(boolean) IS 'the sketch of all keys';
 COMMENT ON AGGREGATE theta_sketch_distinct(boolean) IS 'estimates how many keys differ';
 COMMENT ON FUNCTION theta_sketch_add(theta_sketch, boolean) IS 'the sketch with one more key';
@@ -716,7 +838,9 @@ COMMENT ON FUNCTION theta_sketch_add(theta_sketch, boolean, integer) IS 'the ske
 COMMENT ON AGGREGATE tuple_sketch_build(boolean, bigint) IS 'the sketch of all keys and of the sums of their values';
 COMMENT ON FUNCTION tuple_sketch_add(tuple_sketch, boolean, bigint) IS 'the sketch with a value added to the sum of a key';
 COMMENT ON AGGREGATE tuple_sketch_build(boolean, bigint, integer) IS 'the sketch of all keys and of the sums of their values, of 2^lg_k nominal entries';
+COMMENT ON AGGREGATE tuple_sketch_build(boolean, bigint, integer, text) IS 'the sketch of all keys, and of the sum, the least or the greatest of their values by mode, of 2^lg_k nominal entries';
 COMMENT ON FUNCTION tuple_sketch_add(tuple_sketch, boolean, bigint, integer) IS 'the sketch with a value added to the sum of a key, of 2^lg_k nominal entries';
+COMMENT ON FUNCTION tuple_sketch_add(tuple_sketch, boolean, bigint, integer, text) IS 'the sketch with a value of a key, combined by mode, of 2^lg_k nominal entries';
 COMMENT ON AGGREGATE theta_sketch_build(date) IS 'the sketch of all keys';
 COMMENT ON AGGREGATE theta_sketch_distinct(date) IS 'estimates how many keys differ';
 COMMENT ON FUNCTION theta_sketch_add(theta_sketch, date) IS 'the sketch with one more key';
@@ -726,7 +850,9 @@ COMMENT ON FUNCTION theta_sketch_add(theta_sketch, date, integer) IS 'the sketch
 COMMENT ON AGGREGATE tuple_sketch_build(date, bigint) IS 'the sketch of all keys and of the sums of their values';
 COMMENT ON FUNCTION tuple_sketch_add(tuple_sketch, date, bigint) IS 'the sketch with a value added to the sum of a key';
 COMMENT ON AGGREGATE tuple_sketch_build(date, bigint, integer) IS 'the sketch of all keys and of the sums of their values, of 2^lg_k nominal entries';
+COMMENT ON AGGREGATE tuple_sketch_build(date, bigint, integer, text) IS 'the sketch of all keys, and of the sum, the least or the greatest of their values by mode, of 2^lg_k nominal entries';
 COMMENT ON FUNCTION tuple_sketch_add(tuple_sketch, date, bigint, integer) IS 'the sketch with a value added to the sum of a key, of 2^lg_k nominal entries';
+COMMENT ON FUNCTION tuple_sketch_add(tuple_sketch, date, bigint, integer, text) IS 'the sketch with a value of a key, combined by mode, of 2^lg_k nominal entries';
 COMMENT ON AGGREGATE theta_sketch_build(timestamp) IS 'the sketch of all keys';
 COMMENT ON AGGREGATE theta_sketch_distinct(timestamp) IS 'estimates how many keys differ';
 COMMENT ON FUNCTION theta_sketch_add(theta_sketch, timestamp) IS 'the sketch with one more key';
@@ -736,7 +862,9 @@ COMMENT ON FUNCTION theta_sketch_add(theta_sketch, timestamp, integer) IS 'the s
 COMMENT ON AGGREGATE tuple_sketch_build(timestamp, bigint) IS 'the sketch of all keys and of the sums of their values';
 COMMENT ON FUNCTION tuple_sketch_add(tuple_sketch, timestamp, bigint) IS 'the sketch with a value added to the sum of a key';
 COMMENT ON AGGREGATE tuple_sketch_build(timestamp, bigint, integer) IS 'the sketch of all keys and of the sums of their values, of 2^lg_k nominal entries';
+COMMENT ON AGGREGATE tuple_sketch_build(timestamp, bigint, integer, text) IS 'the sketch of all keys, and of the sum, the least or the greatest of their values by mode, of 2^lg_k nominal entries';
 COMMENT ON FUNCTION tuple_sketch_add(tuple_sketch, timestamp, bigint, integer) IS 'the sketch with a value added to the sum of a key, of 2^lg_k nominal entries';
+COMMENT ON FUNCTION tuple_sketch_add(tuple_sketch, timestamp, bigint, integer, text) IS 'the sketch with a value of a key, combined by mode, of 2^lg_k nominal entries';
 COMMENT ON AGGREGATE theta_sketch_build(timestamptz) IS 'the sketch of all keys';
 COMMENT ON AGGREGATE theta_sketch_distinct(timestamptz) IS 'estimates how many keys differ';
 COMMENT ON FUNCTION theta_sketch_add(theta_sketch, timestamptz) IS 'the sketch with one more key';
@@ -746,7 +874,9 @@ COMMENT ON FUNCTION theta_sketch_add(theta_sketch, timestamptz, integer) IS 'the
 COMMENT ON AGGREGATE tuple_sketch_build(timestamptz, bigint) IS 'the sketch of all keys and of the sums of their values';
 COMMENT ON FUNCTION tuple_sketch_add(tuple_sketch, timestamptz, bigint) IS 'the sketch with a value added to the sum of a key';
 COMMENT ON AGGREGATE tuple_sketch_build(timestamptz, bigint, integer) IS 'the sketch of all keys and of the sums of their values, of 2^lg_k nominal entries';
+COMMENT ON AGGREGATE tuple_sketch_build(timestamptz, bigint, integer, text) IS 'the sketch of all keys, and of the sum, the least or the greatest of their values by mode, of 2^lg_k nominal entries';
 COMMENT ON FUNCTION tuple_sketch_add(tuple_sketch, timestamptz, bigint, integer) IS 'the sketch with a value added to the sum of a key, of 2^lg_k nominal entries';
+COMMENT ON FUNCTION tuple_sketch_add(tuple_sketch, timestamptz, bigint, integer, text) IS 'the sketch with a value of a key, combined by mode, of 2^lg_k nominal entries';
 COMMENT ON AGGREGATE theta_sketch_build(uuid) IS 'the sketch of all keys';
 COMMENT ON AGGREGATE theta_sketch_distinct(uuid) IS 'estimates how many keys differ';
 COMMENT ON FUNCTION theta_sketch_add(theta_sketch, uuid) IS 'the sketch with one more key';
@@ -756,7 +886,9 @@ COMMENT ON FUNCTION theta_sketch_add(theta_sketch, uuid, integer) IS 'the sketch
 COMMENT ON AGGREGATE tuple_sketch_build(uuid, bigint) IS 'the sketch of all keys and of the sums of their values';
 COMMENT ON FUNCTION tuple_sketch_add(tuple_sketch, uuid, bigint) IS 'the sketch with a value added to the sum of a key';
 COMMENT ON AGGREGATE tuple_sketch_build(uuid, bigint, integer) IS 'the sketch of all keys and of the sums of their values, of 2^lg_k nominal entries';
+COMMENT ON AGGREGATE tuple_sketch_build(uuid, bigint, integer, text) IS 'the sketch of all keys, and of the sum, the least or the greatest of their values by mode, of 2^lg_k nominal entries';
 COMMENT ON FUNCTION tuple_sketch_add(tuple_sketch, uuid, bigint, integer) IS 'the sketch with a value added to the sum of a key, of 2^lg_k nominal entries';
+COMMENT ON FUNCTION tuple_sketch_add(tuple_sketch, uuid, bigint, integer, text) IS 'the sketch with a value of a key, combined by mode, of 2^lg_k nominal entries';
 COMMENT ON AGGREGATE theta_sketch_build(inet) IS 'the sketch of all keys';
 COMMENT ON AGGREGATE theta_sketch_distinct(inet) IS 'estimates how many keys differ';
 COMMENT ON FUNCTION theta_sketch_add(theta_sketch, inet) IS 'the sketch with one more key';
@@ -766,7 +898,9 @@ COMMENT ON FUNCTION theta_sketch_add(theta_sketch, inet, integer) IS 'the sketch
 COMMENT ON AGGREGATE tuple_sketch_build(inet, bigint) IS 'the sketch of all keys and of the sums of their values';
 COMMENT ON FUNCTION tuple_sketch_add(tuple_sketch, inet, bigint) IS 'the sketch with a value added to the sum of a key';
 COMMENT ON AGGREGATE tuple_sketch_build(inet, bigint, integer) IS 'the sketch of all keys and of the sums of their values, of 2^lg_k nominal entries';
+COMMENT ON AGGREGATE tuple_sketch_build(inet, bigint, integer, text) IS 'the sketch of all keys, and of the sum, the least or the greatest of their values by mode, of 2^lg_k nominal entries';
 COMMENT ON FUNCTION tuple_sketch_add(tuple_sketch, inet, bigint, integer) IS 'the sketch with a value added to the sum of a key, of 2^lg_k nominal entries';
+COMMENT ON FUNCTION tuple_sketch_add(tuple_sketch, inet, bigint, integer, text) IS 'the sketch with a value of a key, combined by mode, of 2^lg_k nominal entries';
 COMMENT ON AGGREGATE theta_sketch_build(anyenum) IS 'the sketch of all keys';
 COMMENT ON AGGREGATE theta_sketch_distinct(anyenum) IS 'estimates how many keys differ';
 COMMENT ON FUNCTION theta_sketch_add(theta_sketch, anyenum) IS 'the sketch with one more key';
@@ -776,11 +910,14 @@ COMMENT ON FUNCTION theta_sketch_add(theta_sketch, anyenum, integer) IS 'the ske
 COMMENT ON AGGREGATE tuple_sketch_build(anyenum, bigint) IS 'the sketch of all keys and of the sums of their values';
 COMMENT ON FUNCTION tuple_sketch_add(tuple_sketch, anyenum, bigint) IS 'the sketch with a value added to the sum of a key';
 COMMENT ON AGGREGATE tuple_sketch_build(anyenum, bigint, integer) IS 'the sketch of all keys and of the sums of their values, of 2^lg_k nominal entries';
+COMMENT ON AGGREGATE tuple_sketch_build(anyenum, bigint, integer, text) IS 'the sketch of all keys, and of the sum, the least or the greatest of their values by mode, of 2^lg_k nominal entries';
 COMMENT ON FUNCTION tuple_sketch_add(tuple_sketch, anyenum, bigint, integer) IS 'the sketch with a value added to the sum of a key, of 2^lg_k nominal entries';
+COMMENT ON FUNCTION tuple_sketch_add(tuple_sketch, anyenum, bigint, integer, text) IS 'the sketch with a value of a key, combined by mode, of 2^lg_k nominal entries';
 COMMENT ON FUNCTION theta_sketch_add_int2(internal, smallint) IS 'adds a key to a state';
 COMMENT ON FUNCTION theta_sketch_add_int2(internal, smallint, integer) IS 'adds a key to a state';
 COMMENT ON FUNCTION tuple_sketch_add_int2(internal, smallint, bigint) IS 'adds a value of a key to a state';
 COMMENT ON FUNCTION tuple_sketch_add_int2(internal, smallint, bigint, integer) IS 'adds a value of a key to a state';
+COMMENT ON FUNCTION tuple_sketch_add_int2(internal, smallint, bigint, integer, text) IS 'adds a value of a key to a state';
 COMMENT ON AGGREGATE theta_sketch_build(smallint) IS 'the sketch of all keys';
 COMMENT ON AGGREGATE theta_sketch_distinct(smallint) IS 'estimates how many keys differ';
 COMMENT ON FUNCTION theta_sketch_add(theta_sketch, smallint) IS 'the sketch with one more key';
@@ -790,11 +927,14 @@ COMMENT ON FUNCTION theta_sketch_add(theta_sketch, smallint, integer) IS 'the sk
 COMMENT ON AGGREGATE tuple_sketch_build(smallint, bigint) IS 'the sketch of all keys and of the sums of their values';
 COMMENT ON FUNCTION tuple_sketch_add(tuple_sketch, smallint, bigint) IS 'the sketch with a value added to the sum of a key';
 COMMENT ON AGGREGATE tuple_sketch_build(smallint, bigint, integer) IS 'the sketch of all keys and of the sums of their values, of 2^lg_k nominal entries';
+COMMENT ON AGGREGATE tuple_sketch_build(smallint, bigint, integer, text) IS 'the sketch of all keys, and of the sum, the least or the greatest of their values by mode, of 2^lg_k nominal entries';
 COMMENT ON FUNCTION tuple_sketch_add(tuple_sketch, smallint, bigint, integer) IS 'the sketch with a value added to the sum of a key, of 2^lg_k nominal entries';
+COMMENT ON FUNCTION tuple_sketch_add(tuple_sketch, smallint, bigint, integer, text) IS 'the sketch with a value of a key, combined by mode, of 2^lg_k nominal entries';
 COMMENT ON FUNCTION theta_sketch_add_int4(internal, integer) IS 'adds a key to a state';
 COMMENT ON FUNCTION theta_sketch_add_int4(internal, integer, integer) IS 'adds a key to a state';
 COMMENT ON FUNCTION tuple_sketch_add_int4(internal, integer, bigint) IS 'adds a value of a key to a state';
 COMMENT ON FUNCTION tuple_sketch_add_int4(internal, integer, bigint, integer) IS 'adds a value of a key to a state';
+COMMENT ON FUNCTION tuple_sketch_add_int4(internal, integer, bigint, integer, text) IS 'adds a value of a key to a state';
 COMMENT ON AGGREGATE theta_sketch_build(integer) IS 'the sketch of all keys';
 COMMENT ON AGGREGATE theta_sketch_distinct(integer) IS 'estimates how many keys differ';
 COMMENT ON FUNCTION theta_sketch_add(theta_sketch, integer) IS 'the sketch with one more key';
@@ -804,11 +944,14 @@ COMMENT ON FUNCTION theta_sketch_add(theta_sketch, integer, integer) IS 'the ske
 COMMENT ON AGGREGATE tuple_sketch_build(integer, bigint) IS 'the sketch of all keys and of the sums of their values';
 COMMENT ON FUNCTION tuple_sketch_add(tuple_sketch, integer, bigint) IS 'the sketch with a value added to the sum of a key';
 COMMENT ON AGGREGATE tuple_sketch_build(integer, bigint, integer) IS 'the sketch of all keys and of the sums of their values, of 2^lg_k nominal entries';
+COMMENT ON AGGREGATE tuple_sketch_build(integer, bigint, integer, text) IS 'the sketch of all keys, and of the sum, the least or the greatest of their values by mode, of 2^lg_k nominal entries';
 COMMENT ON FUNCTION tuple_sketch_add(tuple_sketch, integer, bigint, integer) IS 'the sketch with a value added to the sum of a key, of 2^lg_k nominal entries';
+COMMENT ON FUNCTION tuple_sketch_add(tuple_sketch, integer, bigint, integer, text) IS 'the sketch with a value of a key, combined by mode, of 2^lg_k nominal entries';
 COMMENT ON FUNCTION theta_sketch_add_oid(internal, oid) IS 'adds a key to a state';
 COMMENT ON FUNCTION theta_sketch_add_oid(internal, oid, integer) IS 'adds a key to a state';
 COMMENT ON FUNCTION tuple_sketch_add_oid(internal, oid, bigint) IS 'adds a value of a key to a state';
 COMMENT ON FUNCTION tuple_sketch_add_oid(internal, oid, bigint, integer) IS 'adds a value of a key to a state';
+COMMENT ON FUNCTION tuple_sketch_add_oid(internal, oid, bigint, integer, text) IS 'adds a value of a key to a state';
 COMMENT ON AGGREGATE theta_sketch_build(oid) IS 'the sketch of all keys';
 COMMENT ON AGGREGATE theta_sketch_distinct(oid) IS 'estimates how many keys differ';
 COMMENT ON FUNCTION theta_sketch_add(theta_sketch, oid) IS 'the sketch with one more key';
@@ -818,11 +961,14 @@ COMMENT ON FUNCTION theta_sketch_add(theta_sketch, oid, integer) IS 'the sketch 
 COMMENT ON AGGREGATE tuple_sketch_build(oid, bigint) IS 'the sketch of all keys and of the sums of their values';
 COMMENT ON FUNCTION tuple_sketch_add(tuple_sketch, oid, bigint) IS 'the sketch with a value added to the sum of a key';
 COMMENT ON AGGREGATE tuple_sketch_build(oid, bigint, integer) IS 'the sketch of all keys and of the sums of their values, of 2^lg_k nominal entries';
+COMMENT ON AGGREGATE tuple_sketch_build(oid, bigint, integer, text) IS 'the sketch of all keys, and of the sum, the least or the greatest of their values by mode, of 2^lg_k nominal entries';
 COMMENT ON FUNCTION tuple_sketch_add(tuple_sketch, oid, bigint, integer) IS 'the sketch with a value added to the sum of a key, of 2^lg_k nominal entries';
+COMMENT ON FUNCTION tuple_sketch_add(tuple_sketch, oid, bigint, integer, text) IS 'the sketch with a value of a key, combined by mode, of 2^lg_k nominal entries';
 COMMENT ON FUNCTION theta_sketch_add_float8(internal, double precision) IS 'adds a key to a state';
 COMMENT ON FUNCTION theta_sketch_add_float8(internal, double precision, integer) IS 'adds a key to a state';
 COMMENT ON FUNCTION tuple_sketch_add_float8(internal, double precision, bigint) IS 'adds a value of a key to a state';
 COMMENT ON FUNCTION tuple_sketch_add_float8(internal, double precision, bigint, integer) IS 'adds a value of a key to a state';
+COMMENT ON FUNCTION tuple_sketch_add_float8(internal, double precision, bigint, integer, text) IS 'adds a value of a key to a state';
 COMMENT ON AGGREGATE theta_sketch_build(double precision) IS 'the sketch of all keys';
 COMMENT ON AGGREGATE theta_sketch_distinct(double precision) IS 'estimates how many keys differ';
 COMMENT ON FUNCTION theta_sketch_add(theta_sketch, double precision) IS 'the sketch with one more key';
@@ -832,7 +978,9 @@ COMMENT ON FUNCTION theta_sketch_add(theta_sketch, double precision, integer) IS
 COMMENT ON AGGREGATE tuple_sketch_build(double precision, bigint) IS 'the sketch of all keys and of the sums of their values';
 COMMENT ON FUNCTION tuple_sketch_add(tuple_sketch, double precision, bigint) IS 'the sketch with a value added to the sum of a key';
 COMMENT ON AGGREGATE tuple_sketch_build(double precision, bigint, integer) IS 'the sketch of all keys and of the sums of their values, of 2^lg_k nominal entries';
+COMMENT ON AGGREGATE tuple_sketch_build(double precision, bigint, integer, text) IS 'the sketch of all keys, and of the sum, the least or the greatest of their values by mode, of 2^lg_k nominal entries';
 COMMENT ON FUNCTION tuple_sketch_add(tuple_sketch, double precision, bigint, integer) IS 'the sketch with a value added to the sum of a key, of 2^lg_k nominal entries';
+COMMENT ON FUNCTION tuple_sketch_add(tuple_sketch, double precision, bigint, integer, text) IS 'the sketch with a value of a key, combined by mode, of 2^lg_k nominal entries';
 COMMENT ON AGGREGATE theta_sketch_build(numeric) IS 'the sketch of all keys';
 COMMENT ON AGGREGATE theta_sketch_distinct(numeric) IS 'estimates how many keys differ';
 COMMENT ON FUNCTION theta_sketch_add(theta_sketch, numeric) IS 'the sketch with one more key';
@@ -842,4 +990,6 @@ COMMENT ON FUNCTION theta_sketch_add(theta_sketch, numeric, integer) IS 'the ske
 COMMENT ON AGGREGATE tuple_sketch_build(numeric, bigint) IS 'the sketch of all keys and of the sums of their values';
 COMMENT ON FUNCTION tuple_sketch_add(tuple_sketch, numeric, bigint) IS 'the sketch with a value added to the sum of a key';
 COMMENT ON AGGREGATE tuple_sketch_build(numeric, bigint, integer) IS 'the sketch of all keys and of the sums of their values, of 2^lg_k nominal entries';
+COMMENT ON AGGREGATE tuple_sketch_build(numeric, bigint, integer, text) IS 'the sketch of all keys, and of the sum, the least or the greatest of their values by mode, of 2^lg_k nominal entries';
 COMMENT ON FUNCTION tuple_sketch_add(tuple_sketch, numeric, bigint, integer) IS 'the sketch with a value added to the sum of a key, of 2^lg_k nominal entries';
+COMMENT ON FUNCTION tuple_sketch_add(tuple_sketch, numeric, bigint, integer, text) IS 'the sketch with a value of a key, combined by mode, of 2^lg_k nominal entries';

@@ -1,4 +1,4 @@
-/* Tuple sketches in PostgreSQL: for each key the sum of its values. See theta_sketch.c. */
+/* Tuple sketches in PostgreSQL: for each key the sum, the least or the greatest of its values. See theta_sketch.c. */
 #include "calls.h"
 #include "libpq/pqformat.h"
 #include "utils/builtins.h"

@@ -74,6 +74,23 @@ int take_lg_k(context *call, int count, value **arguments, int place, uint8_t mi
     return is_in_range && *lg_k == n;
 }
 
+int take_mode(context *call, int count, value **arguments, int place, int is_first, uint8_t *mode) {
+    const void *word = "";
+    size_t length = 0;
+    uint8_t found = KC_SUM;
+    if (count > place) {
+        int is_text = sqlite3_value_type(arguments[place]) == SQLITE_TEXT;
+        if (is_text && !bytes_of(call, arguments[place], &word, &length)) return 0;
+        if (!mode_of(word, length, &found)) {
+            refuse(call, "mode is not " MODES);
+            return 0;
+        }
+    }
+    if (is_first) *mode = found;
+    else if (*mode != found) refuse(call, "mode differs between the rows of a group; pass a constant");
+    return *mode == found;
+}
+
 int take_deviations(context *call, int count, value **arguments, uint32_t *deviations) {
     sqlite3_int64 n = integer_of(count, arguments, 1, 2);
     int is_in_range = 1 <= n && n <= 3;

@@ -27,6 +27,9 @@ int image_bytes(context *call, value *v, const void **bytes, size_t *count);
 /* Reads lg_k from an argument; if that is missing, it is `missing`. It has to be the same in all rows of a group. Returns whether the call
  * goes on. */
 int take_lg_k(context *call, int count, value **arguments, int place, uint8_t missing, uint8_t *lg_k);
+/* Reads a mode, 'sum', 'min' or 'max', from an argument; if that is missing, it is KC_SUM. If it isn't the first row of a group, it has to be
+ * that of the group. Returns whether the call goes on. */
+int take_mode(context *call, int count, value **arguments, int place, int is_first, uint8_t *mode);
 /* Reads a number of standard deviations, likewise. */
 int take_deviations(context *call, int count, value **arguments, uint32_t *deviations);
 

@@ -77,9 +77,12 @@ static const struct { const char *name; int arguments; step *add; end *final, *c
     {"theta_sketch_intersection", 1, theta_meet_step, theta_meet_final, theta_meet_value},
     {"tuple_sketch_build", 2, sums_build_step, sums_union_final, sums_union_value},
     {"tuple_sketch_build", 3, sums_build_step, sums_union_final, sums_union_value},
+    {"tuple_sketch_build", 4, sums_build_step, sums_union_final, sums_union_value},
     {"tuple_sketch_union", 1, sums_union_step, sums_union_final, sums_union_value},
     {"tuple_sketch_union", 2, sums_union_step, sums_union_final, sums_union_value},
+    {"tuple_sketch_union", 3, sums_union_step, sums_union_final, sums_union_value},
     {"tuple_sketch_intersection", 1, sums_meet_step, sums_meet_final, sums_meet_value},
+    {"tuple_sketch_intersection", 2, sums_meet_step, sums_meet_final, sums_meet_value},
 };
 
 /* From SQLite 3.45 on a function says that its result has a subtype; earlier ones ignore this. */
@@ -97,6 +100,7 @@ static const struct { const char *name; int arguments, flags; step *call; } func
     {"theta_sketch_to_text", 1, 0, to_text},
     {"tuple_sketch_add", 3, 0, sums_add},
     {"tuple_sketch_add", 4, 0, sums_add},
+    {"tuple_sketch_add", 5, 0, sums_add},
     {"tuple_sketch_a_not_b", 2, 0, sums_a_not_b},
     {"tuple_sketch_get_estimate", 1, 0, sums_get_estimate},
     {"tuple_sketch_get_bounds", 1, SQLITE_RESULT_SUBTYPE, sums_get_bounds},

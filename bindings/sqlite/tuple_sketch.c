@@ -1,4 +1,4 @@
-/* Tuple sketches in SQLite: for each key the sum of its values. */
+/* Tuple sketches in SQLite: for each key the sum, the least or the greatest of its values. */
 #include "calls.h"
 #include "tuple_sketch.h"
 SQLITE_EXTENSION_INIT3
@@ -30,6 +30,7 @@ static int add_value(context *call, sums_group *group, value *key, value *added)
 void sums_build_step(context *call, int count, value **arguments) {
     sums_group *group = state_of(call, sizeof *group);
     if (group == NULL || is_null(arguments[0]) || is_null(arguments[1])) return;
+    if (!take_mode(call, count, arguments, 3, group->lg_k == 0, &group->mode)) return;
     if (take_lg_k(call, count, arguments, 2, DEFAULT_LG_K, &group->lg_k)) add_value(call, group, arguments[0], arguments[1]);
 }
 

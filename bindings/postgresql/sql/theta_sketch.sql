@@ -26,6 +26,15 @@ SELECT tuple_sketch_to_string(tuple_sketch_union(a.s, b.s)), tuple_sketch_to_str
     tuple_sketch_to_string(tuple_sketch_a_not_b(a.s, b.s)) FROM sums a, sums b WHERE a.day < b.day;
 SELECT tuple_sketch_to_string(tuple_sketch_add(s, 'ann', 7)) FROM sums ORDER BY day;
 
+-- The least and the greatest value of each key.
+CREATE TABLE modes AS SELECT unnest(ARRAY['sum', 'min', 'max']) AS mode;
+SELECT mode, tuple_sketch_to_string(tuple_sketch_build(name, n, 12, mode)) FROM visits, modes GROUP BY mode ORDER BY mode;
+SELECT mode, tuple_sketch_get_total(tuple_sketch_union(s, 12, mode)), tuple_sketch_get_total(tuple_sketch_intersection(s, mode))
+    FROM sums, modes GROUP BY mode ORDER BY mode;
+SELECT mode, tuple_sketch_get_total(tuple_sketch_union(a.s, b.s, 12, mode)), tuple_sketch_get_total(tuple_sketch_intersection(a.s, b.s, mode))
+    FROM sums a, sums b, modes WHERE a.day < b.day ORDER BY mode;
+SELECT mode, day, tuple_sketch_get_total(tuple_sketch_add(s, 'bob', 1, 12, mode)) FROM sums, modes ORDER BY mode, day;
+
 -- Comparisons, types and errors.
 SELECT count(DISTINCT s) FROM (SELECT s FROM days UNION ALL SELECT s FROM days) t;
 SELECT s::text::theta_sketch = s, s::bytea::theta_sketch = s FROM days;
@@ -34,9 +43,11 @@ SELECT theta_sketch_build('ann', 27);
 SELECT theta_sketch_union(s, NULL) FROM days ORDER BY day;
 SELECT tuple_sketch_build('ann', -1);
 SELECT tuple_sketch_build('ann', x) FROM (VALUES (9223372036854775807), (9223372036854775807), (2)) v(x);
+SELECT tuple_sketch_build('ann', 1, 12, 'avg');
+SELECT tuple_sketch_union(s, 12, mode ORDER BY mode) FROM sums, modes;
 SELECT '\x00'::bytea::theta_sketch;
 SELECT 'AQMD?AAeAAA='::theta_sketch;
 SELECT s::bytea::tuple_sketch FROM days;
 SELECT theta_sketch_get_estimate_and_bounds(s, 4) FROM days;
-DROP TABLE visits, days, sums;
+DROP TABLE visits, days, sums, modes;
 DROP EXTENSION theta_sketch;

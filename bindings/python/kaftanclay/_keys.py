@@ -9,12 +9,15 @@ import itertools
 import operator
 import sys
 from array import array
-from typing import Any, SupportsIndex, Union
+from typing import Any, Literal, SupportsIndex, Union
 
 from .errors import InvalidArgumentError
 
 # A str is hashed as its UTF-8 bytes, and a number of 64 bits as its eight bytes, the lowest first.
 Key = Union[str, bytes, bytearray, memoryview, SupportsIndex]
+
+# What a tuple sketch keeps of the values of a key: their sum, the least or the greatest.
+Mode = Literal["sum", "min", "max"]
 
 # How many keys are read: as objects, as the items of an array, or as the columns of Arrow's C data interface.
 OBJECTS, ITEMS, COLUMNS = range(3)

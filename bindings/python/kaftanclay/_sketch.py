@@ -10,6 +10,7 @@ from fractions import Fraction
 from typing import TYPE_CHECKING, Any, TypeVar
 
 from . import _native
+from ._keys import Mode
 from ._native import DEFAULT_SEED, MAX_THETA
 from .errors import InvalidArgumentError, SketchWarning
 
@@ -62,7 +63,7 @@ def warn_of_drops(theta: int, sketches: Iterable[Sketch], level: int) -> None:
 
 
 def unite(union: Any, result: Any, first: Sketch, second: Sketch) -> Any:
-    """The union of two sketches, by a type of unions, as a compact sketch of a type.
+    """The union of two sketches of one mode, by a maker of unions, as a compact sketch of a type.
 
     Its lg_k is the greater of the two. If one of these is a guess, it keeps all hashes that both retain below the lesser theta, up to
     2^26; if they are more, it warns.
@@ -74,13 +75,13 @@ def unite(union: Any, result: Any, first: Sketch, second: Sketch) -> Any:
     image, state = made._result()
     if is_guess:
         warn_of_drops(state[1], (first, second), 4)
-    return result._of(image, state, first.seed, least_lg_k(state[0], lg_k) if is_guess else lg_k, is_guess)
+    return result._of(image, state, first.seed, least_lg_k(state[0], lg_k) if is_guess else lg_k, is_guess, first._mode)
 
 
-def guessed(kind: type[Kept], data: bytes, seed: int, lg_k: int) -> Kept:
+def guessed(kind: type[Kept], data: bytes, seed: int, lg_k: int, mode: Mode = "sum") -> Kept:
     """The sketch of an image that the library wrote, whose lg_k is a guess."""
     found = kind.from_bytes(data, seed)
-    return kind._of(found.to_bytes(), found._state(), seed, lg_k, True)
+    return kind._of(found.to_bytes(), found._state(), seed, lg_k, True, mode)
 
 
 class Sketch(_Sketch):
@@ -125,10 +126,12 @@ class CompactSketch(Sketch, _Compact):
         raise TypeError(f"a {type(self).__name__} is made by from_bytes, by compact and by the operators")
 
     @classmethod
-    def _of(cls: type[Kept], image: bytes, state: State, seed: int, lg_k: int | None, is_guess: bool = False) -> Kept:
+    def _of(
+        cls: type[Kept], image: bytes, state: State, seed: int, lg_k: int | None, is_guess: bool = False, mode: Mode = "sum"
+    ) -> Kept:
         """The sketch of an image that the library wrote. Without an lg_k it is guessed."""
         made = cls.__new__(cls)
-        made._keep(image, state, seed, least_lg_k(state[0]) if lg_k is None else lg_k, lg_k is None or is_guess)
+        made._keep(image, state, seed, least_lg_k(state[0]) if lg_k is None else lg_k, lg_k is None or is_guess, mode)
         return made
 
     @classmethod
@@ -151,7 +154,7 @@ class CompactSketch(Sketch, _Compact):
         return self
 
     def __reduce__(self) -> tuple[Any, ...]:
-        parts = (self.to_bytes(), self.seed, self.lg_k)
+        parts = (self.to_bytes(), self.seed, self.lg_k, *(() if self._mode == "sum" else (self._mode,)))
         return (guessed, (type(self), *parts)) if self._guesses_lg_k else (type(self).from_bytes, parts)
 
 
@@ -186,7 +189,7 @@ class UpdatableSketch(Sketch, _Updatable):
     def __setstate__(self, state: Any) -> None:
         value, resize_factor, starting_theta = state
         theta = starting_theta if value.is_empty else value.theta
-        self._begin(value.lg_k, value.seed, resize_factor, starting_theta, theta, value._guesses_lg_k)
+        self._begin(value.lg_k, value.seed, resize_factor, starting_theta, value._mode, theta, value._guesses_lg_k)
         self._fill(value)
 
     @classmethod

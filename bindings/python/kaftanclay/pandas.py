@@ -16,14 +16,17 @@ All sketches are compact and trimmed: they depend on nothing but the set of keys
 from __future__ import annotations
 
 from collections.abc import Iterable, Iterator
+from functools import partial
 from typing import Any
 
 import numpy
 import pandas  # type: ignore[import]
 
 from . import _keys, _native
+from ._keys import Mode
 from ._native import DEFAULT_SEED
 from ._sketch import least_lg_k, warn_of_drops
+from .errors import InvalidArgumentError
 from .sums import TupleSums
 from .theta import CompactThetaSketch, ThetaSketch, ThetaUnion
 
@@ -70,24 +73,35 @@ def theta_union(sketches: Iterable[Any], lg_k: int | None = None) -> CompactThet
 
 
 def sketch_by(
-    frame: Any, by: Any, key: Any, value: Any = None, lg_k: int = 12, seed: int = DEFAULT_SEED, skipna: bool = True
+    frame: Any,
+    by: Any,
+    key: Any,
+    value: Any = None,
+    lg_k: int = 12,
+    seed: int = DEFAULT_SEED,
+    skipna: bool = True,
+    mode: Mode = "sum",
 ) -> Any:
     """The sketch of the keys of each group, as a Series with the groups as its index; with a `value` those of sums.
 
     `by` is what `groupby` takes. Rows whose group is missing are left out, and so are categories without a row. `key` and `value` are
-    columns of the frame; values are whole numbers from 0. A missing key is skipped with its value, and with skipna=False raises
-    TypeError. The keys are read once, in the order of the rows, which is several times as fast as `agg` for a column of str. Raises
-    KeyError if a column isn't there, TypeError and InvalidArgumentError as `update_many` does, and OutOfMemoryError.
+    columns of the frame; values are whole numbers from 0, of which a key keeps what the `mode` says, as in TupleSums. A missing key is
+    skipped with its value, and with skipna=False raises TypeError. The keys are read once, in the order of the rows, which is several
+    times as fast as `agg` for a column of str. Raises KeyError if a column isn't there, TypeError and InvalidArgumentError as
+    `update_many` does, also for a mode without a value, and OutOfMemoryError.
     """
+    if value is None and mode != "sum":
+        raise InvalidArgumentError("a mode combines the values of a key; name their column as value")
+    make: Any = partial(ThetaSketch, lg_k, seed) if value is None else partial(TupleSums, lg_k, seed, mode=mode)
     grouped = frame.groupby(by, observed=True)
     sizes = grouped.size()
     numbers = _numbers(grouped, sizes)
     # A grouping by time has rows of its own, in the order of time.
     keys, values = _column(grouped.obj, key), None if value is None else _column(grouped.obj, value)
     if _keys.holds_objects(keys.dtype):
-        made = _by_rows(numbers, len(sizes), keys, values, lg_k, seed, skipna)
+        made = _by_rows(numbers, len(sizes), keys, values, make, skipna)
     else:
-        made = _by_runs(numbers, sizes, keys, values, lg_k, seed, skipna)
+        made = _by_runs(numbers, sizes, keys, values, make, skipna)
     return pandas.Series(made, index=sizes.index, name=key, dtype=object)
 
 
@@ -110,9 +124,9 @@ def _column(frame: Any, name: Any) -> Any:
     return column
 
 
-def _by_rows(numbers: Any, count: int, keys: Any, values: Any, lg_k: int, seed: int, skipna: bool) -> list[Any]:
+def _by_rows(numbers: Any, count: int, keys: Any, values: Any, make: Any, skipna: bool) -> list[Any]:
     """Objects are read where they are: in another order it takes several times as long to reach them."""
-    made: tuple[Any, ...] = tuple((ThetaSketch if values is None else TupleSums)(lg_k, seed) for _ in range(count))
+    made: tuple[Any, ...] = tuple(make() for _ in range(count))
     if values is not None:
         values = values.to_numpy() if _keys.holds_objects(values.dtype) else values.tolist()
     _native.add_groups(made, numbers, keys.to_numpy(), values, skipna)
@@ -121,19 +135,16 @@ def _by_rows(numbers: Any, count: int, keys: Any, values: Any, lg_k: int, seed: 
     return [sketch.compact() for sketch in made]
 
 
-def _by_runs(numbers: Any, sizes: Any, keys: Any, values: Any, lg_k: int, seed: int, skipna: bool) -> list[Any]:
+def _by_runs(numbers: Any, sizes: Any, keys: Any, values: Any, make: Any, skipna: bool) -> list[Any]:
     """The keys of each group one behind the other, as an array of each."""
     order = numpy.argsort(numbers, kind="stable")[len(numbers) - sizes.sum() :]
     keys, values = _taken(keys, order), None if values is None else _taken(values, order)
     made: list[Any] = []
     for run in _runs(sizes):
-        if values is None:
-            made.append(theta_sketch(keys[run], lg_k, seed, skipna))
-            continue
-        sums = TupleSums(lg_k, seed)
-        sums.update_many(keys[run], values[run], skipna=skipna)
-        sums.trim()
-        made.append(sums.compact())
+        sketch = make()
+        sketch.update_many(keys[run], *(() if values is None else (values[run],)), skipna=skipna)
+        sketch.trim()
+        made.append(sketch.compact())
     return made
 
 

@@ -58,6 +58,27 @@ int number_of(PyObject *value, const char *range, uint64_t most, uint64_t *out) 
     return status;
 }
 
+static const char *const modes[] = {[KC_SUM] = "sum", [KC_MIN] = "min", [KC_MAX] = "max"};
+
+/* The mode of a word. Refuses others with a TypeError, or with the text of all. */
+int mode_of(PyObject *word, uint8_t *mode) {
+    static const char range[] = "a mode is 'sum', 'min' or 'max'";
+    if (!PyUnicode_Check(word)) {
+        PyObject *name = PyType_GetName(Py_TYPE(word));
+        if (name != NULL) PyErr_Format(PyExc_TypeError, "%s, not %U", range, name);
+        Py_XDECREF(name);
+        return -1;
+    }
+    for (uint8_t at = 0; at < sizeof modes / sizeof *modes; at++) {
+        if (PyUnicode_CompareWithASCIIString(word, modes[at]) != 0) continue;
+        *mode = at;
+        return 0;
+    }
+    return refuse_range(range, word);
+}
+
+PyObject *word_of(uint8_t mode) { return PyUnicode_FromString(modes[mode]); }
+
 /* A number of 128 bits as an int. */
 PyObject *number_of_wide(kc_wide wide) {
     PyObject *low = PyLong_FromUnsignedLongLong(wide.low);

@@ -8,19 +8,26 @@
     static kc_status add_image_to_##name(Handle *h, const void *image, size_t count) { \
         return kc_##name##_add_image(&h->of_##name, image, count); } \
     static kc_status result_of_##name(Handle *h, Result *out) { return kc_##name##_result(&h->of_##name, &out->sketch); }
-#define CALLS_OF_UNION(name) \
-    static kc_status make_##name(Handle *h, const Settings *s) { return kc_##name##_new(&h->of_##name, s->lg_k, s->seed); } \
-    static kc_status reset_##name(Handle *h) { return kc_##name##_reset(&h->of_##name); }
-#define CALLS_OF_INTERSECTION(name) \
-    static kc_status make_##name(Handle *h, const Settings *s) { return kc_##name##_new(&h->of_##name, s->seed); }
 CALLS_OF_MERGE(union, theta)
 CALLS_OF_MERGE(intersection, theta)
 CALLS_OF_MERGE(sums_union, sums)
 CALLS_OF_MERGE(sums_intersection, sums)
-CALLS_OF_UNION(union)
-CALLS_OF_UNION(sums_union)
-CALLS_OF_INTERSECTION(intersection)
-CALLS_OF_INTERSECTION(sums_intersection)
+
+static kc_status make_union(Handle *h, const Settings *s) { return kc_union_new(&h->of_union, s->lg_k, s->seed); }
+
+static kc_status make_sums_union(Handle *h, const Settings *s) {
+    return kc_sums_union_new_by_mode(&h->of_sums_union, s->lg_k, s->seed, s->resize_factor, s->starting_theta, s->mode);
+}
+
+static kc_status make_intersection(Handle *h, const Settings *s) { return kc_intersection_new(&h->of_intersection, s->seed); }
+
+static kc_status make_sums_intersection(Handle *h, const Settings *s) {
+    return kc_sums_intersection_new_by_mode(&h->of_sums_intersection, s->seed, s->mode);
+}
+
+static kc_status reset_union(Handle *h) { return kc_union_reset(&h->of_union); }
+
+static kc_status reset_sums_union(Handle *h) { return kc_sums_union_reset(&h->of_sums_union); }
 
 #define KIND(name) .make = make_##name, .free = free_##name, .add = add_to_##name, .add_image = add_image_to_##name, .result = result_of_##name
 const Kind union_kind = {KIND(union), .reset = reset_union};
@@ -28,11 +35,13 @@ const Kind intersection_kind = {KIND(intersection)};
 const Kind sums_union_kind = {KIND(sums_union), .reset = reset_sums_union, .of_sums = true};
 const Kind sums_intersection_kind = {KIND(sums_intersection), .of_sums = true};
 
-static int merge_init(Object *o, PyObject *lg_k, PyObject *seed) {
+static int merge_init(Object *o, PyObject *lg_k, PyObject *seed, PyObject *word) {
     uint64_t nominal = 12, found = KC_DEFAULT_SEED;
+    uint8_t mode = KC_SUM;
     if (lg_k != NULL && number_of(lg_k, "lg_k is from 4 to 26", UINT8_MAX, &nominal)) return -1;
     if (seed != NULL && number_of(seed, "a seed is from 0 to 2^64 - 1", UINT64_MAX, &found)) return -1;
-    Settings settings = {(uint8_t)nominal, found, 8, KC_MAX_THETA, lg_k == NULL};
+    if (word != NULL && mode_of(word, &mode)) return -1;
+    Settings settings = {(uint8_t)nominal, found, 8, KC_MAX_THETA, lg_k == NULL, mode};
     if (make_object(o, &settings)) return -1;
     o->settings = settings;
     return 0;
@@ -42,14 +51,28 @@ static int union_init(PyObject *self, PyObject *given, PyObject *by_name) {
     static char *names[] = {"lg_k", "seed", NULL};
     PyObject *lg_k = NULL, *seed = NULL;
     if (!PyArg_ParseTupleAndKeywords(given, by_name, "|OO", names, &lg_k, &seed)) return -1;
-    return merge_init((Object *)self, lg_k, seed);
+    return merge_init((Object *)self, lg_k, seed, NULL);
+}
+
+static int sums_union_init(PyObject *self, PyObject *given, PyObject *by_name) {
+    static char *names[] = {"lg_k", "seed", "mode", NULL};
+    PyObject *lg_k = NULL, *seed = NULL, *mode = NULL;
+    if (!PyArg_ParseTupleAndKeywords(given, by_name, "|OO$O", names, &lg_k, &seed, &mode)) return -1;
+    return merge_init((Object *)self, lg_k, seed, mode);
 }
 
 static int intersection_init(PyObject *self, PyObject *given, PyObject *by_name) {
     static char *names[] = {"seed", NULL};
     PyObject *seed = NULL;
     if (!PyArg_ParseTupleAndKeywords(given, by_name, "|O", names, &seed)) return -1;
-    return merge_init((Object *)self, NULL, seed);
+    return merge_init((Object *)self, NULL, seed, NULL);
+}
+
+static int sums_intersection_init(PyObject *self, PyObject *given, PyObject *by_name) {
+    static char *names[] = {"seed", "mode", NULL};
+    PyObject *seed = NULL, *mode = NULL;
+    if (!PyArg_ParseTupleAndKeywords(given, by_name, "|O$O", names, &seed, &mode)) return -1;
+    return merge_init((Object *)self, NULL, seed, mode);
 }
 
 static PyObject *merge_lg_k(PyObject *self, void *unused) {
@@ -60,6 +83,11 @@ static PyObject *merge_lg_k(PyObject *self, void *unused) {
 static PyObject *merge_seed(PyObject *self, void *unused) {
     (void)unused;
     return require_made((Object *)self) ? NULL : PyLong_FromUnsignedLongLong(((Object *)self)->settings.seed);
+}
+
+static PyObject *merge_mode(PyObject *self, void *unused) {
+    (void)unused;
+    return require_made((Object *)self) ? NULL : word_of(((Object *)self)->settings.mode);
 }
 
 static int add_image(Object *o, const char *image, Py_ssize_t count) {
@@ -343,20 +371,21 @@ static PyMethodDef union_methods[] = {METHODS_OF_MERGE(MANY_TEXT UNION_TEXT), RE
 static PyMethodDef intersection_methods[] = {METHODS_OF_MERGE(""), {0}};
 static PyMethodDef sums_union_methods[] = {METHODS_OF_MERGE(" Raises" SUMS_TEXT UNION_TEXT), RESET, {0}};
 static PyMethodDef sums_intersection_methods[] = {METHODS_OF_MERGE(" Raises" SUMS_TEXT), {0}};
-static PyGetSetDef intersection_getters[] = {{"seed", merge_seed, NULL, "The seed of its sketches.", NULL}, {0}};
-static PyGetSetDef union_getters[] = {
-    {"lg_k", merge_lg_k, NULL, "The binary logarithm of its nominal entries, from 4 to 26.", NULL},
-    {"seed", merge_seed, NULL, "The seed of its sketches.", NULL},
-    {0}};
+#define SEED {"seed", merge_seed, NULL, "The seed of its sketches.", NULL}
+#define LG_K {"lg_k", merge_lg_k, NULL, "The binary logarithm of its nominal entries, from 4 to 26.", NULL}
+#define MODE {"mode", merge_mode, NULL, "How it combines the summaries of a key: 'sum', 'min' or 'max'.", NULL}
+static PyGetSetDef intersection_getters[] = {SEED, {0}}, union_getters[] = {LG_K, SEED, {0}};
+static PyGetSetDef sums_intersection_getters[] = {SEED, MODE, {0}}, sums_union_getters[] = {LG_K, SEED, MODE, {0}};
 
 #define TYPE(name, type, init, getters, text) \
     static PyType_Slot name##_slots[] = { \
         {Py_tp_doc, type text}, {Py_tp_new, new_object}, {Py_tp_dealloc, free_object}, {Py_tp_init, init}, {Py_tp_methods, name##_methods}, \
         {Py_tp_getset, getters}, {0, NULL}}; \
     PyType_Spec name##_spec = {"kaftanclay._native." type, sizeof(Object), 0, Py_TPFLAGS_DEFAULT | Py_TPFLAGS_BASETYPE, name##_slots};
-#define UNION_DOC "(lg_k=12, seed=9001)\n--\n\nA union of any number of sketches, in any order."
-#define INTERSECTION_DOC "(seed=9001)\n--\n\nAn intersection of any number of sketches, in any order."
-TYPE(union, "Union", union_init, union_getters, UNION_DOC)
-TYPE(intersection, "Intersection", intersection_init, intersection_getters, INTERSECTION_DOC)
-TYPE(sums_union, "SumsUnion", union_init, union_getters, UNION_DOC)
-TYPE(sums_intersection, "SumsIntersection", intersection_init, intersection_getters, INTERSECTION_DOC)
+#define UNION_DOC(more) "(lg_k=12, seed=9001" more ")\n--\n\nA union of any number of sketches, in any order."
+#define INTERSECTION_DOC(more) "(seed=9001" more ")\n--\n\nAn intersection of any number of sketches, in any order."
+#define MODE_DOC ", *, mode='sum'"
+TYPE(union, "Union", union_init, union_getters, UNION_DOC(""))
+TYPE(intersection, "Intersection", intersection_init, intersection_getters, INTERSECTION_DOC(""))
+TYPE(sums_union, "SumsUnion", sums_union_init, sums_union_getters, UNION_DOC(MODE_DOC))
+TYPE(sums_intersection, "SumsIntersection", sums_intersection_init, sums_intersection_getters, INTERSECTION_DOC(MODE_DOC))

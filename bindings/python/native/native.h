@@ -38,13 +38,14 @@ typedef union {
     kc_compact_sums sums;
 } Result;
 
-/* What a sketch or an operator is made with. Unions have the first two, and intersections only the seed. */
+/* What a sketch or an operator is made with. Unions have the first two, intersections only the seed, and those of sums the mode. */
 typedef struct {
     uint8_t lg_k;
     uint64_t seed;
     uint32_t resize_factor;
     uint64_t starting_theta;
     bool guesses_lg_k; /* nobody passed lg_k: of a union it is the default, of a sketch a guess by an image, which doesn't record it */
+    uint8_t mode;      /* of the family of tuple sketches: KC_SUM, KC_MIN or KC_MAX; else KC_SUM */
 } Settings;
 
 /* The calls of one kind of object. A call that a kind lacks is null. */
@@ -98,7 +99,9 @@ void put_back(Error error);
 PyObject *refuse(kc_status status, const char *reason);
 int refuse_range(const char *range, PyObject *number);
 int number_of(PyObject *value, const char *range, uint64_t most, uint64_t *out);
+int mode_of(PyObject *word, uint8_t *mode);
 PyObject *number_of_wide(kc_wide wide);
+PyObject *word_of(uint8_t mode);
 int arguments(const char *call, const char *const *names, Py_ssize_t positional, Py_ssize_t needed, PyObject *const *given,
               Py_ssize_t count, PyObject *by_name, PyObject **values);
 

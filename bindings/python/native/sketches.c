@@ -4,8 +4,6 @@
 
 /* The calls of the two kinds of sketches that take updates. */
 #define CALLS_OF_SKETCH(name) \
-    static kc_status make_##name(Handle *h, const Settings *s) { \
-        return kc_##name##_new_with(&h->name, s->lg_k, s->seed, s->resize_factor, s->starting_theta); } \
     static kc_status free_##name(Handle *h) { return kc_##name##_free(&h->name); } \
     static kc_status name##_state(Handle *h, kc_state *out) { return kc_##name##_state(&h->name, out); } \
     static kc_status name##_image(Handle *h, void *out, size_t room, uint64_t *length) { \
@@ -14,6 +12,14 @@
     static kc_status clone_##name(Handle *h, Handle *out) { return kc_##name##_clone(&h->name, &out->name); }
 CALLS_OF_SKETCH(theta)
 CALLS_OF_SKETCH(sums)
+
+static kc_status make_theta(Handle *h, const Settings *s) {
+    return kc_theta_new_with(&h->theta, s->lg_k, s->seed, s->resize_factor, s->starting_theta);
+}
+
+static kc_status make_sums(Handle *h, const Settings *s) {
+    return kc_sums_new_by_mode(&h->sums, s->lg_k, s->seed, s->resize_factor, s->starting_theta, s->mode);
+}
 
 static kc_status add_bytes_to_theta(Handle *h, const void *bytes, size_t count, uint64_t value) {
     (void)value;
@@ -74,6 +80,11 @@ static PyObject *sketch_seed(PyObject *self, void *unused) {
 static PyObject *sketch_guesses_lg_k(PyObject *self, void *unused) {
     (void)unused;
     return require_made((Object *)self) ? NULL : PyBool_FromLong(((Object *)self)->settings.guesses_lg_k);
+}
+
+static PyObject *sketch_mode(PyObject *self, void *unused) {
+    (void)unused;
+    return require_made((Object *)self) ? NULL : word_of(((Object *)self)->settings.mode);
 }
 
 static PyObject *sketch_theta(PyObject *self, void *unused) {
@@ -198,6 +209,7 @@ static PyGetSetDef sketch_getters[] = {
     {"lg_k", sketch_lg_k, NULL,
      "The binary logarithm of its nominal entries, from 4 to 26; of an image that was read without one, a guess.", NULL},
     {"_guesses_lg_k", sketch_guesses_lg_k, NULL, "Whether its lg_k is a guess by an image, which doesn't record it.", NULL},
+    {"_mode", sketch_mode, NULL, "The mode of a tuple sketch; of a theta sketch 'sum', which has no effect.", NULL},
     {"seed", sketch_seed, NULL, "The seed of its hashes, from 0 to 2^64 - 1.", NULL},
     {"theta", sketch_theta, NULL, "Its theta, from 1 to 2^63 - 1; hashes at or above it are dropped.", NULL},
     {"is_empty", sketch_is_empty, NULL,
@@ -219,35 +231,51 @@ PyType_Spec sketch_spec = {"kaftanclay._native.Sketch", sizeof(Object), 0, Py_TP
 
 /* ---- Sketches that take updates ---- */
 
+/* The settings that a sketch is passed: lg_k, seed, resize factor, starting theta and mode. */
+enum { SETTINGS_OF_SKETCH = 5 };
+
 /* Reads the settings of a sketch; those that are null have their default. */
 static int read_settings(PyObject *const *values, Settings *settings) {
     uint64_t lg_k = 12, seed = KC_DEFAULT_SEED, resize_factor = 8, theta = KC_MAX_THETA;
+    uint8_t mode = KC_SUM;
     if (values[0] != NULL && number_of(values[0], "lg_k is from 4 to 26", UINT8_MAX, &lg_k)) return -1;
     if (values[1] != NULL && number_of(values[1], "a seed is from 0 to 2^64 - 1", UINT64_MAX, &seed)) return -1;
     if (values[2] != NULL && number_of(values[2], "a resize factor is 1, 2, 4 or 8", UINT32_MAX, &resize_factor)) return -1;
     if (values[3] != NULL && number_of(values[3], "a theta is from 1 to 2^63 - 1", UINT64_MAX, &theta)) return -1;
-    *settings = (Settings){(uint8_t)lg_k, seed, (uint32_t)resize_factor, theta, false};
+    if (values[4] != NULL && mode_of(values[4], &mode)) return -1;
+    *settings = (Settings){(uint8_t)lg_k, seed, (uint32_t)resize_factor, theta, false, mode};
     return 0;
 }
 
-static int sketch_init(PyObject *self, PyObject *given, PyObject *by_name) {
-    static char *names[] = {"lg_k", "seed", "resize_factor", "starting_theta", NULL};
-    PyObject *values[4] = {0};
+static int sketch_init(PyObject *self, PyObject *const *values) {
     Settings settings;
-    if (!PyArg_ParseTupleAndKeywords(given, by_name, "|OO$OO", names, &values[0], &values[1], &values[2], &values[3])) return -1;
     if (read_settings(values, &settings) || make_object((Object *)self, &settings)) return -1;
     ((Object *)self)->settings = settings;
     return 0;
 }
 
-/* Makes it anew with four settings, but so that it begins at another theta than after a reset, and perhaps with a guess as its lg_k. */
+static int theta_init(PyObject *self, PyObject *given, PyObject *by_name) {
+    static char *names[] = {"lg_k", "seed", "resize_factor", "starting_theta", NULL};
+    PyObject *values[SETTINGS_OF_SKETCH] = {0};
+    if (!PyArg_ParseTupleAndKeywords(given, by_name, "|OO$OO", names, &values[0], &values[1], &values[2], &values[3])) return -1;
+    return sketch_init(self, values);
+}
+
+static int sums_init(PyObject *self, PyObject *given, PyObject *by_name) {
+    static char *names[] = {"lg_k", "seed", "resize_factor", "starting_theta", "mode", NULL};
+    PyObject *v[SETTINGS_OF_SKETCH] = {0};
+    if (!PyArg_ParseTupleAndKeywords(given, by_name, "|OO$OOO", names, &v[0], &v[1], &v[2], &v[3], &v[4])) return -1;
+    return sketch_init(self, v);
+}
+
+/* Makes it anew with its settings, but so that it begins at another theta than after a reset, and perhaps with a guess as its lg_k. */
 static PyObject *sketch_begin(PyObject *self, PyObject *given) {
-    PyObject *values[4];
+    PyObject *v[SETTINGS_OF_SKETCH];
     Settings settings;
     unsigned long long theta;
     int is_guess;
-    if (!PyArg_ParseTuple(given, "OOOOKp", &values[0], &values[1], &values[2], &values[3], &theta, &is_guess)) return NULL;
-    if (read_settings(values, &settings)) return NULL;
+    if (!PyArg_ParseTuple(given, "OOOOOKp", &v[0], &v[1], &v[2], &v[3], &v[4], &theta, &is_guess)) return NULL;
+    if (read_settings(v, &settings)) return NULL;
     settings.guesses_lg_k = is_guess;
     Settings first = settings;
     first.starting_theta = theta;
@@ -463,12 +491,13 @@ static PyMethodDef theta_methods[] = {
 static PyMethodDef sums_methods[] = {
     METHOD("update", update_sums,
            "update($self, key, value=1)\n--\n\n"
-           "Adds a value, from 0 to 2^64 - 1, to the sum of a key, which `ThetaSketch.update` describes.\n\n"
-           "Raises PolicyError if the sum would be 2^64 or more, InvalidArgumentError for a number out of range, TypeError for a\n"
+           "Adds a value, from 0 to 2^64 - 1, to the sum of a key, which `ThetaSketch.update` describes; with the mode 'min' or\n"
+           "'max' the key keeps the least or the greatest of its values.\n\n"
+           "Raises PolicyError if a sum would be 2^64 or more, InvalidArgumentError for a number out of range, TypeError for a\n"
            "float and for a missing value, and OutOfMemoryError; the sketch is then unchanged."),
     METHOD("update_many", sums_update_many,
            "update_many($self, keys, values=1, *, skipna=True)\n--\n\n"
-           "Adds to the sum of each of many keys its value: `values` has as many as `keys`, or is one number for all.\n\n"
+           "Updates each of many keys with its value, as `update` does: `values` has as many as `keys`, or is one number for all.\n\n"
            "Keys are as in `ThetaSketch.update_many`; a missing key is skipped with its value, and with skipna=False raises\n"
            "TypeError. Arrays of keys with an array of values are read without a Python object for each. Raises what `update`\n"
            "raises, also for a missing value, and InvalidArgumentError if there are not as many values as keys. The pairs before\n"
@@ -479,27 +508,28 @@ static PyMethodDef sums_methods[] = {
     {"_total", total_of_sums, METH_NOARGS, "The retained sums together, and theta."},
     {0}};
 
-#define SETTINGS(name) name "(lg_k=12, seed=9001, *, resize_factor=8, starting_theta=9223372036854775807)\n--\n\n"
+#define SETTINGS(name, more) name "(lg_k=12, seed=9001, *, resize_factor=8, starting_theta=9223372036854775807" more ")\n--\n\n"
 
 static PyType_Slot theta_slots[] = {
-    {Py_tp_doc, SETTINGS("Theta") "A theta sketch that takes updates."},
-    {Py_tp_new, new_object}, {Py_tp_init, sketch_init}, {Py_tp_methods, theta_methods}, {0, NULL}};
+    {Py_tp_doc, SETTINGS("Theta", "") "A theta sketch that takes updates."},
+    {Py_tp_new, new_object}, {Py_tp_init, theta_init}, {Py_tp_methods, theta_methods}, {0, NULL}};
 static PyType_Slot sums_slots[] = {
-    {Py_tp_doc, SETTINGS("Sums") "A tuple sketch of sums that takes updates."},
-    {Py_tp_new, new_object}, {Py_tp_init, sketch_init}, {Py_tp_methods, sums_methods}, {0, NULL}};
+    {Py_tp_doc, SETTINGS("Sums", ", mode='sum'") "A tuple sketch of sums, least or greatest values that takes updates."},
+    {Py_tp_new, new_object}, {Py_tp_init, sums_init}, {Py_tp_methods, sums_methods}, {0, NULL}};
 PyType_Spec theta_spec = {"kaftanclay._native.Theta", sizeof(Object), 0, Py_TPFLAGS_DEFAULT | Py_TPFLAGS_BASETYPE, theta_slots};
 PyType_Spec sums_spec = {"kaftanclay._native.Sums", sizeof(Object), 0, Py_TPFLAGS_DEFAULT | Py_TPFLAGS_BASETYPE, sums_slots};
 
 /* ---- Compact sketches ---- */
 
-/* Puts an image that the library wrote into a new compact sketch, with its state, seed and lg_k, and whether that is a guess. */
+/* Puts an image that the library wrote into a new compact sketch, with its state, seed and lg_k, whether that is a guess, and its mode. */
 static PyObject *compact_keep(PyObject *self, PyObject *given) {
     Object *o = (Object *)self;
-    PyObject *image, *values[4] = {0};
+    PyObject *image, *values[SETTINGS_OF_SKETCH] = {0};
     unsigned long long retained, theta;
     int is_empty, is_guess;
     Settings settings;
-    if (!PyArg_ParseTuple(given, "S(KKp)OOp", &image, &retained, &theta, &is_empty, &values[1], &values[0], &is_guess)) return NULL;
+    const char *const form = "S(KKp)OOpO";
+    if (!PyArg_ParseTuple(given, form, &image, &retained, &theta, &is_empty, &values[1], &values[0], &is_guess, &values[4])) return NULL;
     if (read_settings(values, &settings)) return NULL;
     settings.guesses_lg_k = is_guess;
     if (settings.lg_k < 4 || settings.lg_k > 26) return refuse_range("lg_k is from 4 to 26", values[0]), NULL;

@@ -48,6 +48,12 @@ def sums(keys=NUMBERS, lg_k=10):
     return made
 
 
+def least(keys=NUMBERS, lg_k=10):
+    made = TupleSums(lg_k, resize_factor=2, mode="min")
+    made.update_many(keys, 3)
+    return made
+
+
 def union(kind, part):
     made = kind(10)
     made.update(part)
@@ -129,6 +135,9 @@ CASES = {
     "sums union": (lambda: union(TupleSumsUnion, sums()), lambda it: it.update(OTHER_SUMS), True),
     "sums union list": (lambda: union(TupleSumsUnion, sums()), lambda it: it.update([OTHER_SUMS, IMAGE_OF_SUMS]), True),
     "sums meet": (lambda: union(lambda lg_k: TupleSumsIntersection(), sums()), lambda it: (it.update(OTHER_SUMS), it.result()), True),
+    "modes": (lambda: None, lambda it: (TupleSums(mode="min"), TupleSumsUnion(mode="max"), TupleSumsIntersection(mode="min")), False),
+    "least or, and, copies": (least, lambda it: (it | it, it & it, copy.copy(it), pickle.loads(pickle.dumps(it))), False),
+    "least union": (lambda: union(lambda lg_k: TupleSumsUnion(lg_k, mode="min"), least()), lambda it: it.update(OTHER_SUMS), True),
 }
 SKETCH = theta(NUMBERS[500:])
 

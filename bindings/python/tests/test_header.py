@@ -32,7 +32,7 @@ def header():
 
 
 def test_errors():
-    statuses = {name: int(status) for name, status in re.findall(r"KC_(?!FLAW_)(\w+) = (\d)", header())}
+    statuses = {name: int(status) for name, status in re.findall(r"KC_(?!FLAW_|SUM\b|MIN\b|MAX\b)(\w+) = (\d)", header())}
     assert len(statuses) == 7 and statuses["OK"] == 0
     for name, status in statuses.items():
         if name in ("OK", "TOO_SMALL"):
@@ -93,6 +93,9 @@ def test_texts_of_help():
         "lg_k": 12, "seed": DEFAULT_SEED, "resize_factor": 8, "starting_theta": MAX_THETA,
     }
     assert list(inspect.signature(ThetaUnion).parameters) == ["lg_k", "seed"]
+    assert list(inspect.signature(TupleSums).parameters) == [*settings, "mode"]
+    assert list(inspect.signature(TupleSumsUnion).parameters) == ["lg_k", "seed", "mode"]
+    assert list(inspect.signature(TupleSumsIntersection).parameters) == ["seed", "mode"]
     for kind in (ThetaSketch, CompactThetaSketch, ThetaUnion, ThetaIntersection, TupleSums, CompactTupleSums, TupleSumsUnion, TupleSumsIntersection):
         for name in dir(kind):
             assert name.startswith("_") or inspect.getdoc(getattr(kind, name)), (kind, name)

@@ -307,7 +307,7 @@ def test_pickles_of_earlier_versions():
 
 
 RIGHT = """
-from kaftanclay import CompactThetaSketch, ThetaSketch, ThetaUnion, TupleSums
+from kaftanclay import CompactThetaSketch, ThetaSketch, ThetaUnion, TupleSums, TupleSumsUnion
 
 sketch = ThetaSketch(lg_k=14, seed=1, resize_factor=2)
 sketch.update("a")
@@ -320,10 +320,12 @@ bounds: tuple[int, int] = sketch.bounds()
 sums = TupleSums()
 sums.update_many(["a"], [1])
 items: list[tuple[int, int]] = sums.items()
+least = TupleSumsUnion(mode="min").result() | TupleSums.from_bytes(b"", mode="min")
 read: ThetaSketch = ThetaSketch.from_bytes(sketch.to_bytes())
 """
 WRONG = (
     "ThetaSketch().update(1.5)", "ThetaUnion().update(TupleSums())", "ThetaSketch(lg=3)", "sketch.estimate = 1.0", "TupleSums().update('a', 'b')",
+    "TupleSums(mode='avg')", "TupleSumsUnion(12, 9001, 'min')",
 )
 
 

@@ -86,6 +86,13 @@ def test_sums(kind):
             assert made[group] == sums_of([it for it in pairs if it[0] is not None], 11)
     numbers = pandas.DataFrame({"group": list("aab"), "key": [1, 1, 1], "value": [5, 6, 7]})
     assert [it.total for it in sketch_by(numbers, "group", "key", "value")] == [11.0, 7.0]
+    for mode, wanted in (("sum", [11.0, 7.0]), ("min", [5.0, 7.0]), ("max", [6.0, 7.0])):
+        for of in ("int64", "Int64", object):
+            made = sketch_by(numbers.astype({"key": of, "value": of}), "group", "key", "value", mode=mode)
+            assert [(it.total, it.mode) for it in made] == [(total, mode) for total in wanted]
+    for value, mode in (("value", "avg"), (None, "min")):
+        with pytest.raises(InvalidArgumentError, match="mode"):
+            sketch_by(numbers, "group", "key", value, mode=mode)
     numbers["value"] = [1, 2**64 - 1, 0]
     with pytest.raises(PolicyError):
         sketch_by(numbers.astype({"value": "uint64"}), "group", "key", "value")

@@ -9,6 +9,7 @@ import pytest
 from kaftanclay import CompactThetaSketch, CompactTupleSums, InvalidArgumentError, ThetaSketch, ThetaUnion, TupleSums, TupleSumsUnion
 
 MOST = 2**64 - 1
+KEEPS = {"sum": lambda first, second: first + second, "min": min, "max": max}
 
 
 def random_key(chance):
@@ -85,44 +86,54 @@ def test_theta(start):
         check_theta(*pool[at])
 
 
+@pytest.mark.parametrize("mode", KEEPS)
 @pytest.mark.parametrize("start", range(6))
-def test_sums(start):
-    chance = random.Random(100 + start)
-    pool = [(TupleSums(chance.randrange(10, 14)), {}) for _ in range(3)]
+def test_sums(start, mode):
+    chance, keep = random.Random(100 + start), KEEPS[mode]
+    most = 2**40 if mode == "sum" else MOST
+    pool = [(TupleSums(chance.randrange(10, 14), mode=mode), {}) for _ in range(3)]
 
     def count(sums, key, value):
-        sums[hashed(key)] = sums.get(hashed(key), 0) + value
+        sums[key] = keep(sums[key], value) if key in sums else value
+
+    def united(parts):
+        found = {}
+        for part in parts:
+            for key, value in part.items():
+                count(found, key, value)
+        return sum(found.values())
 
     for _ in range(400):
         at, other = chance.randrange(len(pool)), chance.randrange(len(pool))
         sketch, sums = pool[at]
         step = chance.randrange(9)
         if step < 3:
-            key, value = random_key(chance), chance.choice((0, 1, chance.randrange(2**40)))
+            key, value = random_key(chance), chance.choice((0, 1, chance.randrange(most)))
             sketch.update(key, value)
-            count(sums, key, value)
+            count(sums, hashed(key), value)
         elif step < 5:
             some = [random_key(chance) for _ in range(chance.randrange(40))]
-            values = [chance.randrange(2**40) for _ in some]
+            values = [chance.randrange(most) for _ in some]
             sketch.update_many(as_some_iterable(chance, some), chance.choice((values, iter(values), array("Q", values))))
             for key, value in zip(some, values):
-                count(sums, key, value)
+                count(sums, hashed(key), value)
         elif step == 5:
-            pool[at] = chance.choice((copy.copy, lambda it: pickle.loads(pickle.dumps(it)), lambda it: TupleSums.from_bytes(bytes(it))))(sketch), dict(sums)
+            read = lambda it: TupleSums.from_bytes(bytes(it), mode=mode)  # noqa: E731
+            pool[at] = chance.choice((copy.copy, lambda it: pickle.loads(pickle.dumps(it)), read))(sketch), dict(sums)
         elif step == 6:
             second, those = pool[other]
             both, meet, rest = sketch | second, sketch & second, sketch - second
-            assert type(both) is CompactTupleSums and both.total == sum(sums.values()) + sum(those.values())
-            assert meet.total == sum(sums[key] + those[key] for key in sums.keys() & those.keys())
-            assert rest.total == sum(sums[key] for key in sums.keys() - those.keys())
+            assert type(both) is CompactTupleSums and both.total_fraction == united((sums, those))
+            assert meet.total_fraction == sum(keep(sums[key], those[key]) for key in sums.keys() & those.keys())
+            assert rest.total_fraction == sum(sums[key] for key in sums.keys() - those.keys())
         elif step == 7:
-            union = TupleSumsUnion(12)
+            union = TupleSumsUnion(12, mode=mode)
             for it, _ in pool:
                 union.update(chance.choice((it, it.compact(), it.to_bytes())))
-            assert union.result().total == sum(sum(those.values()) for _, those in pool)
+            assert union.result().total_fraction == united(those for _, those in pool)
         elif not chance.randrange(4):
             sketch.reset()
             sums.clear()
         sketch, sums = pool[at]
-        assert len(sketch) == len(sums) and sketch.total == sum(sums.values())
+        assert len(sketch) == len(sums) and sketch.total_fraction == sum(sums.values()) and sketch.mode == mode
         assert sorted(value for _, value in sketch.items()) == sorted(sums.values())

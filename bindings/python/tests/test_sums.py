@@ -50,7 +50,7 @@ def value_of(values, seed=DEFAULT_SEED):
 
 def combined(kind, first, second):
     """The intersection, by &, or the difference, by -, of two such sketches, from the pages alone."""
-    return model_distinct.two_sums(kind, first, second, 4096)
+    return model_distinct.two_sums(kind, first, second, 4096, operator.add)
 
 
 def image_of(value, seed=DEFAULT_SEED):

@@ -58,7 +58,6 @@ const _: () =
 type Free = unsafe extern "C" fn(*mut Raw) -> Status;
 type Change = unsafe extern "C" fn(*mut Raw) -> Status;
 type NewWith = unsafe extern "C" fn(*mut Raw, u32, u64, u32, u64) -> Status;
-type NewIntersection = unsafe extern "C" fn(*mut Raw, u64) -> Status;
 type WriteState = unsafe extern "C" fn(*const Raw, *mut State) -> Status;
 type WriteImage = unsafe extern "C" fn(*const Raw, *mut u8, usize, *mut u64) -> Status;
 type WriteHashes = unsafe extern "C" fn(*const Raw, *mut u64, usize, *mut u64) -> Status;
@@ -108,7 +107,14 @@ extern "C" {
     fn kc_intersection_result_with(intersection: *const Raw, ordered: u32, out: *mut Raw) -> Status;
     fn kc_intersection_estimated_size(intersection: *const Raw, bytes: *mut u64) -> Status;
     fn kc_difference_with(first: *const Raw, second: *const Raw, seed: u64, ordered: u32, out: *mut Raw) -> Status;
-    fn kc_sums_new_with(sums: *mut Raw, lg_k: u32, seed: u64, resize_factor: u32, starting_theta: u64) -> Status;
+    fn kc_sums_new_by_mode(
+        sums: *mut Raw,
+        lg_k: u32,
+        seed: u64,
+        resize_factor: u32,
+        starting_theta: u64,
+        mode: u32,
+    ) -> Status;
     fn kc_sums_free(sums: *mut Raw) -> Status;
     fn kc_sums_add_hash(sums: *mut Raw, hash: u64, value: u64) -> Status;
     fn kc_sums_add_bytes(sums: *mut Raw, bytes: *const u8, count: usize, value: u64) -> Status;
@@ -134,13 +140,21 @@ extern "C" {
     fn kc_compact_sums_is_ordered(sums: *const Raw, out: *mut u32) -> Status;
     fn kc_compact_sums_estimated_size(sums: *const Raw, bytes: *mut u64) -> Status;
     fn kc_sums_union_new_with(u: *mut Raw, lg_k: u32, seed: u64, resize_factor: u32, starting_theta: u64) -> Status;
+    fn kc_sums_union_new_by_mode(
+        u: *mut Raw,
+        lg_k: u32,
+        seed: u64,
+        resize_factor: u32,
+        starting_theta: u64,
+        mode: u32,
+    ) -> Status;
     fn kc_sums_union_free(u: *mut Raw) -> Status;
     fn kc_sums_union_add(u: *mut Raw, sketch: *const Raw) -> Status;
     fn kc_sums_union_add_compact(u: *mut Raw, sketch: *const Raw) -> Status;
     fn kc_sums_union_reset(u: *mut Raw) -> Status;
     fn kc_sums_union_result_with(u: *const Raw, ordered: u32, out: *mut Raw) -> Status;
     fn kc_sums_union_estimated_size(u: *const Raw, bytes: *mut u64) -> Status;
-    fn kc_sums_intersection_new(intersection: *mut Raw, seed: u64) -> Status;
+    fn kc_sums_intersection_new_by_mode(intersection: *mut Raw, seed: u64, mode: u32) -> Status;
     fn kc_sums_intersection_free(intersection: *mut Raw) -> Status;
     fn kc_sums_intersection_add(intersection: *mut Raw, sketch: *const Raw) -> Status;
     fn kc_sums_intersection_add_compact(intersection: *mut Raw, sketch: *const Raw) -> Status;
@@ -177,7 +191,6 @@ pub(crate) trait Summed: Sketch {
 /// A kind of sketch that takes updates.
 pub(crate) trait Updated: Sketch {
     type Form: Form;
-    const NEW: NewWith;
     const TRIM: Change;
     const RESET: Change;
     const COMPACT: Make;
@@ -209,11 +222,6 @@ pub(crate) trait Operator: Kind {
 pub(crate) trait Unites: Operator {
     const NEW: NewWith;
     const RESET: Change;
-}
-
-/// A kind of intersection.
-pub(crate) trait Intersects: Operator {
-    const NEW: NewIntersection;
 }
 
 macro_rules! kinds {
@@ -265,7 +273,6 @@ impl Summed for CompactSumsKind {
 
 impl Updated for ThetaKind {
     type Form = CompactKind;
-    const NEW: NewWith = kc_theta_new_with;
     const TRIM: Change = kc_theta_trim;
     const RESET: Change = kc_theta_reset;
     const COMPACT: Make = kc_theta_compact_with;
@@ -273,7 +280,6 @@ impl Updated for ThetaKind {
 }
 impl Updated for SumsKind {
     type Form = CompactSumsKind;
-    const NEW: NewWith = kc_sums_new_with;
     const TRIM: Change = kc_sums_trim;
     const RESET: Change = kc_sums_reset;
     const COMPACT: Make = kc_sums_compact_with;
@@ -328,12 +334,6 @@ impl Unites for UnionKind {
 impl Unites for SumsUnionKind {
     const NEW: NewWith = kc_sums_union_new_with;
     const RESET: Change = kc_sums_union_reset;
-}
-impl Intersects for IntersectionKind {
-    const NEW: NewIntersection = kc_intersection_new;
-}
-impl Intersects for SumsIntersectionKind {
-    const NEW: NewIntersection = kc_sums_intersection_new;
 }
 
 /// An object of the C library, which its owner alone frees.
@@ -428,11 +428,6 @@ impl<K: Summed> Object<K> {
 }
 
 impl<K: Updated> Object<K> {
-    pub(crate) fn new(lg_k: u8, seed: u64, resize_factor: u32, starting_theta: u64) -> Result<Self, Error> {
-        // SAFETY: the handle has no object yet.
-        Self::made(|at| unsafe { K::NEW(at, u32::from(lg_k), seed, resize_factor, starting_theta) })
-    }
-
     pub(crate) fn trim(&mut self) -> Result<(), Error> {
         // SAFETY: the handle is of this kind, and `&mut` excludes other calls.
         check(unsafe { K::TRIM(self.handle()) })
@@ -458,6 +453,11 @@ impl<K: Updated> Object<K> {
 }
 
 impl Theta {
+    pub(crate) fn new(lg_k: u8, seed: u64, resize_factor: u32, starting_theta: u64) -> Result<Self, Error> {
+        // SAFETY: the handle has no object yet.
+        Self::made(|at| unsafe { kc_theta_new_with(at, u32::from(lg_k), seed, resize_factor, starting_theta) })
+    }
+
     #[inline]
     pub(crate) fn update_hash(&mut self, hash: u64) -> Result<(), Error> {
         // SAFETY: the handle is of this kind, and `&mut` excludes other calls.
@@ -485,7 +485,22 @@ impl Theta {
     }
 }
 
+/// What is kept of the values of a key (`KC_SUM`, `KC_MIN`, `KC_MAX`).
+#[derive(Clone, Copy)]
+#[repr(u32)]
+pub(crate) enum Mode {
+    Sum = 0,
+    Min = 1,
+    Max = 2,
+}
+
 impl Sums {
+    pub(crate) fn new(lg_k: u8, seed: u64, resize_factor: u32, starting_theta: u64, mode: Mode) -> Result<Self, Error> {
+        let (lg_k, mode) = (u32::from(lg_k), mode as u32);
+        // SAFETY: the handle has no object yet.
+        Self::made(|at| unsafe { kc_sums_new_by_mode(at, lg_k, seed, resize_factor, starting_theta, mode) })
+    }
+
     #[inline]
     pub(crate) fn add_hash(&mut self, hash: u64, value: u64) -> Result<(), Error> {
         // SAFETY: the handle is of this kind, and `&mut` excludes other calls.
@@ -583,10 +598,31 @@ impl<K: Unites> Object<K> {
     }
 }
 
-impl<K: Intersects> Object<K> {
+impl SumsUnion {
+    pub(crate) fn by_mode(
+        lg_k: u8,
+        seed: u64,
+        resize_factor: u32,
+        starting_theta: u64,
+        mode: Mode,
+    ) -> Result<Self, Error> {
+        let (lg_k, mode) = (u32::from(lg_k), mode as u32);
+        // SAFETY: the handle has no object yet.
+        Self::made(|at| unsafe { kc_sums_union_new_by_mode(at, lg_k, seed, resize_factor, starting_theta, mode) })
+    }
+}
+
+impl Intersection {
     pub(crate) fn intersection(seed: u64) -> Result<Self, Error> {
         // SAFETY: the handle has no object yet.
-        Self::made(|at| unsafe { K::NEW(at, seed) })
+        Self::made(|at| unsafe { kc_intersection_new(at, seed) })
+    }
+}
+
+impl SumsIntersection {
+    pub(crate) fn by_mode(seed: u64, mode: Mode) -> Result<Self, Error> {
+        // SAFETY: the handle has no object yet.
+        Self::made(|at| unsafe { kc_sums_intersection_new_by_mode(at, seed, mode as u32) })
     }
 }
 

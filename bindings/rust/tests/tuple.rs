@@ -17,9 +17,9 @@ use kaftanclay::common::NumStdDev;
 use kaftanclay::error::{Error, ErrorKind};
 use kaftanclay::theta::ThetaSketchBuilder;
 use kaftanclay::tuple::{
-    CompactTupleSketch, DefaultUnionPolicy, DefaultUpdatePolicy, SummaryCombinePolicy, SummaryPolicy,
-    SummaryUpdatePolicy, TupleANotB, TupleEntry, TupleIntersection, TupleSketch, TupleSketchBuilder, TupleSummaryValue,
-    TupleUnionBuilder,
+    CompactTupleSketch, DefaultUnionPolicy, DefaultUpdatePolicy, MaxPolicy, MinPolicy, SummaryCombinePolicy,
+    SummaryPolicy, SummaryUpdatePolicy, TupleANotB, TupleEntry, TupleIntersection, TupleSketch, TupleSketchBuilder,
+    TupleSummaryValue, TupleUnionBuilder,
 };
 use std::ops::AddAssign;
 use std::panic::{catch_unwind, AssertUnwindSafe};
@@ -694,4 +694,86 @@ fn views_sizes_and_texts_are_there() {
     assert!(texts.contains("retained: 10"));
     assert_eq!(pairs(sum.try_iter().unwrap()), pairs(sum.try_compact(false).unwrap().try_iter().unwrap()));
     assert_eq!(form.try_serialize().unwrap(), form.serialize());
+}
+
+/// The least or the greatest value, but as a policy of a caller's own, whose summaries are a map's.
+#[derive(Clone, Copy)]
+struct OwnExtreme {
+    first: u64,
+    kept: fn(u64, u64) -> u64,
+}
+
+impl SummaryPolicy for OwnExtreme {
+    type Summary = u64;
+
+    fn create(&self) -> u64 {
+        self.first
+    }
+}
+
+impl SummaryUpdatePolicy<u64> for OwnExtreme {
+    fn update(&self, summary: &mut u64, value: u64) {
+        *summary = (self.kept)(*summary, value);
+    }
+}
+
+impl SummaryCombinePolicy for OwnExtreme {
+    fn combine(&self, summary: &mut u64, other: &u64) {
+        *summary = (self.kept)(*summary, *other);
+    }
+}
+
+/// A sketch that was given three values of each key.
+fn extreme_of<P>(policy: P, lg_k: u8, keys: std::ops::Range<u64>) -> TupleSketch<P>
+where
+    P: SummaryUpdatePolicy<u64>,
+{
+    let mut sketch = TupleSketchBuilder::new(policy).lg_k(lg_k).build().unwrap();
+    for round in 0..3 {
+        keys.clone()
+            .for_each(|it| sketch.update(it, (it + 1).wrapping_mul(0x9e37_79b9_7f4a_7c15).rotate_left(21 * round)));
+    }
+    sketch
+}
+
+fn check_extreme<P>(policy: P, first: u64, kept: fn(u64, u64) -> u64)
+where
+    P: SummaryPolicy<Summary = u64> + SummaryUpdatePolicy<u64> + SummaryCombinePolicy + Copy,
+{
+    let own = OwnExtreme { first, kept };
+    for (lg_k, count) in [(12, 1000), (5, 3000)] {
+        let (a, b) = (extreme_of(policy, lg_k, 0..count), extreme_of(policy, lg_k, count / 2..2 * count));
+        let (own_a, own_b) = (extreme_of(own, lg_k, 0..count), extreme_of(own, lg_k, count / 2..2 * count));
+        assert_same(&a.compact(true), &own_a.compact(true));
+        assert_same(&b.compact(false), &own_b.compact(false));
+        let mut both = TupleUnionBuilder::new(policy).lg_k(lg_k).build().unwrap();
+        let mut own_both = TupleUnionBuilder::new(own).lg_k(lg_k).build().unwrap();
+        let (mut shared, mut own_shared) = (TupleIntersection::new(policy), TupleIntersection::new(own));
+        for view in [a.as_view(), own_b.as_view(), b.compact(true).as_view(), own_a.compact(false).as_view()] {
+            both.update(view).unwrap();
+            own_both.update(view).unwrap();
+            shared.update(view).unwrap();
+            own_shared.update(view).unwrap();
+        }
+        assert_same(&both.to_sketch(true), &own_both.to_sketch(true));
+        assert_same(&shared.to_sketch(true).unwrap(), &own_shared.to_sketch(true).unwrap());
+        let mut sketch = a;
+        sketch.reset();
+        sketch.update("ann", 7);
+        sketch.update("ann", 9);
+        assert_eq!(summaries(sketch.iter()), [kept(7, 9)]);
+    }
+    let mut full = TupleSketchBuilder::new(policy).build().unwrap();
+    let mut both = TupleUnionBuilder::new(policy).build().unwrap();
+    for _ in 0..2 {
+        full.update("ann", u64::MAX);
+        both.update(&full).unwrap();
+    }
+    assert_eq!(summaries(both.to_sketch(true).iter()), [u64::MAX]);
+}
+
+#[test]
+fn least_and_greatest_values_are_those_of_a_policy_of_ones_own() {
+    check_extreme(MinPolicy, u64::MAX, u64::min);
+    check_extreme(MaxPolicy, 0, u64::max);
 }

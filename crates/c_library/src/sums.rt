@@ -7,10 +7,11 @@ ghost use Rattle.c_handles.specs.Calls.{OnObject, Fills, FillsFrom, FillsFromTwo
 ghost use Rattle.c_objects.specs.CompactSums.{CopiesEntriesOf};
 ghost use Rattle.c_objects.specs.Orders.{IsCompactFormOfSumsIn, IsDifferenceOfSumsSketches};
 ghost use Rattle.c_objects.specs.Orders.{IsSumsSketchDifferenceRefusal, AreSumsSketchesOfSeed};
-ghost use Rattle.c_objects.specs.Settings.{IsSettingsRefusal, IsNewRefusal, valid_factor, valid_order};
+ghost use Rattle.c_objects.specs.Settings.{IsSettingsRefusal, IsNewRefusal, IsModeRefusal, valid_factor, valid_order};
 ghost use Rattle.c_objects.specs.Status.{IsMemoryRefusal};
-ghost use Rattle.c_objects.specs.Sums.{IsNewSums, IsSameSums, AddsValue, AddsAtBytes, AddsAtNumber, TrimsSums};
-ghost use Rattle.c_objects.specs.Sums.{ResetsSums, sums_state, sums_total, IsImageOfSums, IsCompactFormOfSums};
+ghost use Rattle.c_objects.specs.Sums.{IsNewSums, IsNewSumsByMode, IsSameSums, AddsValue, AddsAtBytes, AddsAtNumber};
+ghost use Rattle.c_objects.specs.Sums.{TrimsSums, ResetsSums, sums_state, sums_total, IsImageOfSums, IsCompactFormOfSums};
+ghost use Rattle.tuple_sketches.specs.declared.numbers.SummaryMode.TheVariants.{Sum};
 
 use c_handles::handles::{CompactSumsHandle, SumsHandle};
 use c_handles::readers::SumsReader;
@@ -18,16 +19,28 @@ use c_objects::bounds::Wide;
 use c_objects::settings::factor_of;
 use c_objects::state::State;
 use c_objects::status::INVALID_ARGUMENT;
-use c_objects::sums::{add_at_bytes, add_at_hash, add_at_number, build, put_entries_of};
+use c_objects::sums::{
+    add_at_bytes, add_at_hash, add_at_number, build, build_by_mode, put_entries_of,
+};
 use std::alloc::Global;
-use tuple_sketches::{MAX_THETA, ResizeFactor};
+use tuple_sketches::{MAX_THETA, ResizeFactor, SummaryMode};
 
 /// Makes an empty sketch, as `kcp_theta_new` does.
 #[unsafe(no_mangle)]
 pub extern "C" fn kcp_sums_new(alloc: Global, sums: &mut SumsHandle, lg_k: u32, seed: u64) -> u32
-    ensures { Fills (IsNewSums lg_k MAX_THETA seed) (IsSettingsRefusal lg_k seed) sums.old.value result sums.new.value }
+    ensures { Fills (IsNewSums Sum lg_k MAX_THETA seed) (IsSettingsRefusal lg_k seed) sums.old.value result sums.new.value }
 {
-    sums.owned().put(alloc, build(alloc, lg_k, ResizeFactor::X8, MAX_THETA, seed))
+    sums.owned().put(
+        alloc,
+        build(
+            alloc,
+            lg_k,
+            ResizeFactor::X8,
+            MAX_THETA,
+            seed,
+            SummaryMode::Sum,
+        ),
+    )
 }
 
 /// Makes a sketch with a resize factor and a starting theta, as `kcp_theta_new_with` does.
@@ -40,14 +53,41 @@ pub extern "C" fn kcp_sums_new_with(
     resize_factor: u32,
     starting_theta: u64,
 ) -> u32
-    ensures made { Fills (IsNewSums lg_k starting_theta seed) (IsNewRefusal lg_k resize_factor starting_theta seed)
+    ensures made { Fills (IsNewSums Sum lg_k starting_theta seed) (IsNewRefusal lg_k resize_factor starting_theta seed)
         sums.old.value result sums.new.value }
     ensures factor { result ≡ 0 → is_some (valid_factor resize_factor) ≡ true }
 {
     match factor_of(resize_factor) {
-        Some(factor) => sums
-            .owned()
-            .put(alloc, build(alloc, lg_k, factor, starting_theta, seed)),
+        Some(factor) => sums.owned().put(
+            alloc,
+            build(alloc, lg_k, factor, starting_theta, seed, SummaryMode::Sum),
+        ),
+        None => INVALID_ARGUMENT,
+    }
+}
+
+/// Makes a sketch of a mode, otherwise as `kcp_sums_new_with` does. Beside each hash it keeps the sum of its values for
+/// `SUM`, as other sketches do, the least of them for `MIN`, and the greatest for `MAX`. Refused with
+/// `INVALID_ARGUMENT` for another mode too.
+#[unsafe(no_mangle)]
+pub extern "C" fn kcp_sums_new_by_mode(
+    alloc: Global,
+    sums: &mut SumsHandle,
+    lg_k: u32,
+    seed: u64,
+    resize_factor: u32,
+    starting_theta: u64,
+    mode: u32,
+) -> u32
+    ensures made { Fills (IsNewSumsByMode mode lg_k starting_theta seed)
+        (IsModeRefusal mode lg_k resize_factor starting_theta seed) sums.old.value result sums.new.value }
+    ensures factor { result ≡ 0 → is_some (valid_factor resize_factor) ≡ true }
+{
+    match factor_of(resize_factor) {
+        Some(factor) => sums.owned().put(
+            alloc,
+            build_by_mode(alloc, lg_k, factor, starting_theta, seed, mode),
+        ),
         None => INVALID_ARGUMENT,
     }
 }
@@ -68,10 +108,10 @@ pub extern "C" fn kcp_sums_free(alloc: Global, sums: &mut SumsHandle)
     sums.owned().free(alloc);
 }
 
-/// Adds a value to the sum of a hash, which is 0 at first. A hash that is 0 or at least theta is not retained, but
-/// the sketch is nonempty afterwards.
+/// Adds a value to the sum of a hash, which is 0 at first; or keeps the less or the greater of both, if that is the
+/// sketch's mode. A hash that is 0 or at least theta is not retained, but the sketch is nonempty afterwards.
 ///
-/// Refused with `POLICY` if the sum would be 2^64 or more, and with `OUT_OF_MEMORY`, only for a new hash below theta.
+/// Refused with `POLICY` if a sum would be 2^64 or more, and with `OUT_OF_MEMORY`, only for a new hash below theta.
 #[unsafe(no_mangle)]
 pub extern "C" fn kcp_sums_add_hash(sums: &mut SumsHandle, hash: u64, value: u64) -> u32
     ensures { OnObject (AddsValue hash value) sums.old.value result sums.new.value }

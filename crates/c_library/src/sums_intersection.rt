@@ -2,16 +2,18 @@
 ghost use Rattle.std.specs.Prelude.{◌≡◌, None};
 ghost use Rattle.c_handles.specs.Calls.{OnObject, OnObjectWith, Fills, FillsFrom, FillsInOrder, WritesSome};
 ghost use Rattle.c_objects.specs.CompactSums.{OfCompactSums, OfSumsImage};
-ghost use Rattle.c_objects.specs.Intersection.{IsSeedRefusal};
+ghost use Rattle.c_objects.specs.Intersection.{IsSeedRefusal, IsSeedModeRefusal};
 ghost use Rattle.c_objects.specs.Orders.{IsSumsIntersectionResultIn};
 ghost use Rattle.c_objects.specs.Settings.{valid_order};
-ghost use Rattle.c_objects.specs.SumsIntersection.{IsNewSumsIntersection, MeetsShownSums, MeetsUpdatableSums};
-ghost use Rattle.c_objects.specs.SumsIntersection.{IsSumsIntersectionResult, IsNoSumsResult};
+ghost use Rattle.c_objects.specs.SumsIntersection.{IsNewSumsIntersection, IsNewSumsIntersectionByMode, MeetsShownSums};
+ghost use Rattle.c_objects.specs.SumsIntersection.{MeetsUpdatableSums, IsSumsIntersectionResult, IsNoSumsResult};
+ghost use Rattle.tuple_sketches.specs.declared.numbers.SummaryMode.TheVariants.{Sum};
 
 use c_handles::handles::{CompactSumsHandle, SumsIntersectionHandle};
 use c_handles::readers::{CompactSumsReader, SumsIntersectionReader, SumsReader};
-use c_objects::sums_intersection::build;
+use c_objects::sums_intersection::{build, build_by_mode};
 use std::alloc::Global;
+use tuple_sketches::SummaryMode;
 
 /// Makes an intersection, refused as `kcp_intersection_new` is. Its value is that of an intersection of theta
 /// sketches, and beside each hash the sum of the sums of all sketches.
@@ -21,10 +23,30 @@ pub extern "C" fn kcp_sums_intersection_new(
     intersection: &mut SumsIntersectionHandle,
     seed: u64,
 ) -> u32
-    ensures { Fills (IsNewSumsIntersection seed) (IsSeedRefusal seed) intersection.old.value result
+    ensures { Fills (IsNewSumsIntersection Sum seed) (IsSeedRefusal seed) intersection.old.value result
         intersection.new.value }
 {
-    intersection.owned().put(alloc, build(alloc, seed))
+    intersection
+        .owned()
+        .put(alloc, build(alloc, seed, SummaryMode::Sum))
+}
+
+/// Makes an intersection of a mode, otherwise as `kcp_sums_intersection_new` does. Beside each hash it keeps the sum of
+/// the numbers of all sketches for `SUM`, as other intersections do, the least of them for `MIN`, and the greatest for
+/// `MAX`, whatever the modes of its sketches. Refused with `INVALID_ARGUMENT` for another mode too.
+#[unsafe(no_mangle)]
+pub extern "C" fn kcp_sums_intersection_new_by_mode(
+    alloc: Global,
+    intersection: &mut SumsIntersectionHandle,
+    seed: u64,
+    mode: u32,
+) -> u32
+    ensures { Fills (IsNewSumsIntersectionByMode mode seed) (IsSeedModeRefusal mode seed) intersection.old.value
+        result intersection.new.value }
+{
+    intersection
+        .owned()
+        .put(alloc, build_by_mode(alloc, seed, mode))
 }
 
 /// Frees the intersection of a handle, if it has one.

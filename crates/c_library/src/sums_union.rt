@@ -5,17 +5,19 @@ ghost use Rattle.c_objects.specs.Buffer.{WritesOf};
 ghost use Rattle.c_objects.specs.CompactSums.{OfCompactSums, OfSumsImage};
 ghost use Rattle.c_handles.specs.Calls.{OnObject, OnObjectWith, Fills, FillsFrom, FillsInOrder, WritesSome};
 ghost use Rattle.c_objects.specs.Orders.{IsSumsUnionResultIn};
-ghost use Rattle.c_objects.specs.Settings.{IsSettingsRefusal, IsNewRefusal, valid_order};
-ghost use Rattle.c_objects.specs.SumsUnion.{IsNewSumsUnion, AddsShownSums, AddsUpdatableSums, IsSumsUnionResult};
+ghost use Rattle.c_objects.specs.Settings.{IsSettingsRefusal, IsNewRefusal, IsModeRefusal, valid_order};
+ghost use Rattle.c_objects.specs.SumsUnion.{IsNewSumsUnion, IsNewSumsUnionByMode};
+ghost use Rattle.c_objects.specs.SumsUnion.{AddsShownSums, AddsUpdatableSums, IsSumsUnionResult};
 ghost use Rattle.c_objects.specs.SumsUnion.{IsSumsUnionImage, IsSumsResultRefusal, LowersSumsUnion, ResetsSumsUnion};
+ghost use Rattle.tuple_sketches.specs.declared.numbers.SummaryMode.TheVariants.{Sum};
 
 use c_handles::handles::{CompactSumsHandle, SumsUnionHandle};
 use c_handles::readers::{CompactSumsReader, SumsReader, SumsUnionReader};
 use c_objects::settings::factor_of;
 use c_objects::status::INVALID_ARGUMENT;
-use c_objects::sums_union::{build, lower};
+use c_objects::sums_union::{build, build_by_mode, lower};
 use std::alloc::Global;
-use tuple_sketches::{MAX_THETA, ResizeFactor};
+use tuple_sketches::{MAX_THETA, ResizeFactor, SummaryMode};
 
 /// Makes a union of 2^`lg_k` nominal entries, refused as `kcp_theta_new` is. Its value is that of a union of theta
 /// sketches, and beside each hash the sum of the sums of all sketches.
@@ -26,10 +28,20 @@ pub extern "C" fn kcp_sums_union_new(
     lg_k: u32,
     seed: u64,
 ) -> u32
-    ensures { Fills (IsNewSumsUnion lg_k MAX_THETA seed) (IsSettingsRefusal lg_k seed) union.old.value result
+    ensures { Fills (IsNewSumsUnion Sum lg_k MAX_THETA seed) (IsSettingsRefusal lg_k seed) union.old.value result
         union.new.value }
 {
-    union.owned().put(alloc, build(alloc, lg_k, ResizeFactor::X8, MAX_THETA, seed))
+    union.owned().put(
+        alloc,
+        build(
+            alloc,
+            lg_k,
+            ResizeFactor::X8,
+            MAX_THETA,
+            seed,
+            SummaryMode::Sum,
+        ),
+    )
 }
 
 /// Makes a union with a resize factor and a starting theta, as `kcp_theta_new_with` makes a sketch.
@@ -42,13 +54,39 @@ pub extern "C" fn kcp_sums_union_new_with(
     resize_factor: u32,
     starting_theta: u64,
 ) -> u32
-    ensures { Fills (IsNewSumsUnion lg_k starting_theta seed) (IsNewRefusal lg_k resize_factor starting_theta seed)
+    ensures { Fills (IsNewSumsUnion Sum lg_k starting_theta seed) (IsNewRefusal lg_k resize_factor starting_theta seed)
         union.old.value result union.new.value }
 {
     match factor_of(resize_factor) {
-        Some(factor) => union
-            .owned()
-            .put(alloc, build(alloc, lg_k, factor, starting_theta, seed)),
+        Some(factor) => union.owned().put(
+            alloc,
+            build(alloc, lg_k, factor, starting_theta, seed, SummaryMode::Sum),
+        ),
+        None => INVALID_ARGUMENT,
+    }
+}
+
+/// Makes a union of a mode, otherwise as `kcp_sums_union_new_with` does. Beside each hash it keeps the sum of the
+/// numbers of all sketches for `SUM`, as other unions do, the least of them for `MIN`, and the greatest for `MAX`,
+/// whatever the modes of its sketches. Refused with `INVALID_ARGUMENT` for another mode too.
+#[unsafe(no_mangle)]
+pub extern "C" fn kcp_sums_union_new_by_mode(
+    alloc: Global,
+    union: &mut SumsUnionHandle,
+    lg_k: u32,
+    seed: u64,
+    resize_factor: u32,
+    starting_theta: u64,
+    mode: u32,
+) -> u32
+    ensures { Fills (IsNewSumsUnionByMode mode lg_k starting_theta seed)
+        (IsModeRefusal mode lg_k resize_factor starting_theta seed) union.old.value result union.new.value }
+{
+    match factor_of(resize_factor) {
+        Some(factor) => union.owned().put(
+            alloc,
+            build_by_mode(alloc, lg_k, factor, starting_theta, seed, mode),
+        ),
         None => INVALID_ARGUMENT,
     }
 }

@@ -7,8 +7,9 @@ use Rattle.core_laws.specs.Maps.{below}
 use Rattle.core_laws.specs.Shown.{Shown, shown_value}
 use Rattle.core_operators.specs.ANotB.{IsDifference}
 use Rattle.core_operators.specs.Intersection.{Intersection, IsAnswerIfAny}
-use Rattle.tuple_sketches.specs.Streams.{Compact, Sketch, TupleEntry, Given, tuple_key, unsigned_sum, value_of, shared_by, without, IsSampleOf}
-use Rattle.c_objects.specs.SumsIntersection.{MeetsShownSums, sums_intersection_of}
+use Rattle.tuple_sketches.specs.Streams.{Compact, Sketch, TupleEntry, Given, tuple_key, combined_number, value_of, shared_by, without, IsSampleOf}
+use Rattle.tuple_sketches.specs.declared.numbers.SummaryMode.{SummaryMode}
+use Rattle.c_objects.specs.SumsIntersection.{MeetsShownSums, sums_intersection_of, sums_intersection_mode}
 use Rattle.c_objects.specs.SumsStreams.{IsSumsIntersectionOf, GivesSumsSample, HasSharedSums, HasLackingSums}
 use Rattle.c_objects.specs.declared.sums_intersection.SeededSumsIntersection.{SeededSumsIntersection}
 use Rattle.c_objects.proofs.Merges.{not_ok}
@@ -19,7 +20,7 @@ module _ (s t : Shown) (listing others : List (TupleEntry ℕ)) (old : SeededSum
   meets_same shown listed meets = subst (λ l. MeetsShownSums t l old status new) listed (subst (λ x. MeetsShownSums x listing old status new) shown meets)
 
   -- a call with status 0 gave the intersection one sample more
-  pub sample_given : MeetsShownSums s listing old status new → status ≡ 0 → GivesSumsSample (shown_value tuple_key s listing) (sums_intersection_of old) (sums_intersection_of new)
+  pub sample_given : MeetsShownSums s listing old status new → status ≡ 0 → GivesSumsSample (sums_intersection_mode old) (shown_value tuple_key s listing) (sums_intersection_of old) (sums_intersection_of new)
   unfolding MeetsShownSums
   sample_given meets ok = elim meets.1 [
     | inl done ↦ done.1.3
@@ -32,18 +33,18 @@ result_seed None h s answer = absurd answer
 result_seed (Some v) h s answer = answer-seed tuple_key v h true s answer
 
 -- the result of an intersection
-pub has_shared : {P : Type 0} (i : Intersection (TupleEntry ℕ) P) (o : Option (Compact (TupleEntry ℕ))) (s : Compact (TupleEntry ℕ)) → o ≡ Some s → IsAnswerIfAny tuple_key i.result i.seed_hash true o
-    → IfSome o (λ r. (givens : List (Given ℕ)) → IsSumsIntersectionOf i givens → IsSampleOf (value_of r) (shared_by (unsigned_sum 64) givens))
-    → IfSome o (λ r. (givens : List (Given ℕ)) → IsSumsIntersectionOf i givens → true ≡ true → map Value r.entries ≡ below (fold_key tuple_key) (shared_by (unsigned_sum 64) givens).whole r.theta)
-    → IsAnswerIfAny tuple_key i.result i.seed_hash true (Some s) × HasSharedSums i s
-has_shared i o s is answer sample lists =
+pub has_shared : {P : Type 0} (mode : SummaryMode) (i : Intersection (TupleEntry ℕ) P) (o : Option (Compact (TupleEntry ℕ))) (s : Compact (TupleEntry ℕ)) → o ≡ Some s → IsAnswerIfAny tuple_key i.result i.seed_hash true o
+    → IfSome o (λ r. (givens : List (Given ℕ)) → IsSumsIntersectionOf mode i givens → IsSampleOf (value_of r) (shared_by (combined_number mode) givens))
+    → IfSome o (λ r. (givens : List (Given ℕ)) → IsSumsIntersectionOf mode i givens → true ≡ true → map Value r.entries ≡ below (fold_key tuple_key) (shared_by (combined_number mode) givens).whole r.theta)
+    → IsAnswerIfAny tuple_key i.result i.seed_hash true (Some s) × HasSharedSums mode i s
+has_shared mode i o s is answer sample lists =
     let found : IsAnswerIfAny tuple_key i.result i.seed_hash true (Some s) = subst (λ q. IsAnswerIfAny tuple_key i.result i.seed_hash true q) is answer in (
       found,
       record {
-        sample = subst (λ q. IfSome q (λ r. (givens : List (Given ℕ)) → IsSumsIntersectionOf i givens → IsSampleOf (value_of r) (shared_by (unsigned_sum 64) givens))) is sample;
+        sample = subst (λ q. IfSome q (λ r. (givens : List (Given ℕ)) → IsSumsIntersectionOf mode i givens → IsSampleOf (value_of r) (shared_by (combined_number mode) givens))) is sample;
         below =
-            let all : (givens : List (Given ℕ)) → IsSumsIntersectionOf i givens → true ≡ true → map Value s.entries ≡ below (fold_key tuple_key) (shared_by (unsigned_sum 64) givens).whole s.theta =
-            subst (λ q. IfSome q (λ r. (givens : List (Given ℕ)) → IsSumsIntersectionOf i givens → true ≡ true → map Value r.entries ≡ below (fold_key tuple_key) (shared_by (unsigned_sum 64) givens).whole r.theta)) is lists in
+            let all : (givens : List (Given ℕ)) → IsSumsIntersectionOf mode i givens → true ≡ true → map Value s.entries ≡ below (fold_key tuple_key) (shared_by (combined_number mode) givens).whole s.theta =
+            subst (λ q. IfSome q (λ r. (givens : List (Given ℕ)) → IsSumsIntersectionOf mode i givens → true ≡ true → map Value r.entries ≡ below (fold_key tuple_key) (shared_by (combined_number mode) givens).whole r.theta)) is lists in
             λ givens given. all givens given refl;
         seeded = result_seed i.result i.seed_hash s found;
       },

@@ -9,11 +9,11 @@ use Rattle.core_operators.specs.Intersection.{IsAnswerIfAny}
 use Rattle.core_operators.specs.Union.{union_value, failure}
 use Rattle.core_state.specs.Updatable.{sketch_value}
 use Rattle.tuple_sketches.specs.Streams.{NonEmpty, Given, MAX_THETA, tuple_key, seed_hash, least_folds, value_of, retained_of}
-use Rattle.tuple_sketches.specs.Streams.{Compact, Sketch, TupleEntry, unsigned_sum, shared_by, without}
+use Rattle.tuple_sketches.specs.Streams.{Compact, Sketch, TupleEntry, combined_number, shared_by, without}
 use Rattle.tuple_sketches.specs.Streams.{IsPartOf, IsSampleOf, IsSketchOf, IsTrimmedOf, IsUnionOf}
 use Rattle.c_objects.specs.Orders.{IsCompactFormOfSumsIn, IsSumsUnionResultIn, IsSumsIntersectionResultIn, IsDifferenceOfSumsIn}
 use Rattle.c_objects.specs.Sums.{sums_sketch}
-use Rattle.c_objects.specs.SumsIntersection.{sums_intersection_of}
+use Rattle.c_objects.specs.SumsIntersection.{sums_intersection_of, sums_intersection_mode}
 use Rattle.c_objects.specs.SumsStreams.{IsSumsIntersectionOf}
 use Rattle.c_objects.specs.SumsUnion.{sums_union_of}
 use Rattle.c_objects.specs.declared.compact_sums.CompactSums.{CompactSums}
@@ -49,10 +49,10 @@ sums_union_in false u s sound ok part least kmin = (sound, ok)
 pub sums_intersection_in : (ordered : Bool) (i : SeededSumsIntersection) (o : Option (Compact (TupleEntry ℕ))) (s : CompactSums)
     → o ≡ Some s.sketch
     → IsAnswerIfAny tuple_key (sums_intersection_of i).result (sums_intersection_of i).seed_hash ordered o
-    → IfSome o (λ r. (givens : List (Given ℕ)) → IsSumsIntersectionOf (sums_intersection_of i) givens → IsSampleOf (value_of r) (shared_by (unsigned_sum 64) givens))
-    → IfSome o (λ r. (givens : List (Given ℕ)) → IsSumsIntersectionOf (sums_intersection_of i) givens → ordered ≡ true → map Value r.entries ≡ below (fold_key tuple_key) (shared_by (unsigned_sum 64) givens).whole r.theta)
+    → IfSome o (λ r. (givens : List (Given ℕ)) → IsSumsIntersectionOf (sums_intersection_mode i) (sums_intersection_of i) givens → IsSampleOf (value_of r) (shared_by (combined_number (sums_intersection_mode i)) givens))
+    → IfSome o (λ r. (givens : List (Given ℕ)) → IsSumsIntersectionOf (sums_intersection_mode i) (sums_intersection_of i) givens → ordered ≡ true → map Value r.entries ≡ below (fold_key tuple_key) (shared_by (combined_number (sums_intersection_mode i)) givens).whole r.theta)
     → IsSumsIntersectionResultIn ordered i s
-sums_intersection_in true i o s is ok sample lists = has_shared (sums_intersection_of i) o s.sketch is ok sample lists
+sums_intersection_in true i o s is ok sample lists = has_shared (sums_intersection_mode i) (sums_intersection_of i) o s.sketch is ok sample lists
 sums_intersection_in false i o s is ok sample lists =
     subst (λ q. IsAnswerIfAny tuple_key (sums_intersection_of i).result (sums_intersection_of i).seed_hash false q) is ok
 

@@ -1,7 +1,7 @@
 -- Why bytes are not read as an image, as C has it.
 use Rattle.std.specs.Prelude.{ℕ, ◌≡◌, ◌≢◌, List, Option, Some, None}
 use Rattle.sketch_base.specs.Seed.{seed_hash}
-use Rattle.core_images.specs.declared.flaw.Flaw.TheVariants.{Short, Family, Version, BigEndian, Cut, Seed, Damaged, Longer}
+use Rattle.core_images.specs.declared.flaw.Flaw.TheVariants.{Short, Family, Version, BigEndian, Malformed, Cut, Seed, Theta, Damaged, Longer}
 use Rattle.keys_sketches.specs.Header.{flaw_of, image_length, sums_flaw_of, sums_length}
 use Rattle.keys_sketches.specs.declared.header.Flaw.{Flaw}
 use Rattle.keys_sketches.specs.declared.header.Flaw.TheVariants.{Hexadecimal, Image}
@@ -18,6 +18,8 @@ reason_of (Image Seed) = 6
 reason_of (Image Cut) = 7
 reason_of (Image Longer) = 8
 reason_of (Image Damaged) = 9
+reason_of (Image Malformed) = 10
+reason_of (Image Theta) = 11
 
 -- the byte that a flaw names
 abbrev pub found_byte : Flaw → ℕ
@@ -30,6 +32,8 @@ found_byte (Image Seed) = 0
 found_byte (Image Cut) = 0
 found_byte (Image Longer) = 0
 found_byte (Image Damaged) = 0
+found_byte (Image Malformed) = 0
+found_byte (Image Theta) = 0
 
 -- a length that is known, else 0
 abbrev pub length_or_none : Option ℕ → ℕ

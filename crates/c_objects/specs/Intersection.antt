@@ -11,6 +11,7 @@ use Rattle.core_operators.specs.ANotB.{IsHashDifference, difference_refusal}
 use Rattle.core_operators.specs.Intersection.{new_intersection, seed_refusal, intersect_refusal, IsAnswerIfAny}
 use Rattle.core_operators.specs.Intersection.{IsHashIntersectError}
 use Rattle.theta_sketches.specs.Streams.{IsIntersectionOf}
+use Rattle.c_objects.specs.Settings.{mode_refusal}
 use Rattle.c_objects.specs.Status.{status_of, IsRefusal}
 use Rattle.c_objects.specs.Streams.{GivesSample, GivesSampleOf, HasShared, HasLacking}
 use Rattle.c_objects.specs.Thetas.{OfSketch}
@@ -28,6 +29,10 @@ IsNewIntersection seed i =
 -- the refusal of a new intersection: a seed whose hash is 0, or memory
 abbrev pub IsSeedRefusal : (seed : ℕ) → (status : ℕ) → Type 0
 IsSeedRefusal seed status = IsRefusal (seed_refusal seed) true status
+
+-- the refusal of a new intersection of a mode: a mode that none may have, a seed whose hash is 0, or memory
+abbrev pub IsSeedModeRefusal : (mode seed status : ℕ) → Type 0
+IsSeedModeRefusal mode seed status = IsRefusal (mode_refusal mode (seed_refusal seed)) true status
 
 -- a sketch that shows this was intersected, with status 0; the intersection was given one sample more
 abbrev pub Meets : Shown → (listing : List ℕ) → (old new : SeededIntersection) → Type 0

@@ -5,6 +5,8 @@ use Rattle.sketch_base.specs.declared.error.ErrorKind.{ErrorKind}
 use Rattle.sketch_base.specs.declared.error.ErrorKind.TheVariants.{InvalidArgument}
 use Rattle.core_laws.specs.Settings.{settings_refusal}
 use Rattle.core_laws.specs.declared.TheConstants.{MAX_THETA}
+use Rattle.tuple_sketches.specs.declared.numbers.SummaryMode.{SummaryMode}
+use Rattle.tuple_sketches.specs.declared.numbers.SummaryMode.TheVariants.{Sum, Min, Max}
 use Rattle.c_objects.specs.Status.{IsRefusal}
 
 -- a resize factor
@@ -22,6 +24,20 @@ IsNewRefusal lg_k factor start seed status = IsRefusal (new_refusal lg_k factor 
 -- the refusal of a new object of the default resize factor, at the greatest theta
 abbrev pub IsSettingsRefusal : (lg_k seed status : ℕ) → Type 0
 IsSettingsRefusal lg_k seed status = IsRefusal (settings_refusal lg_k MAX_THETA seed) true status
+
+-- the mode of a number: 0 for sums, 1 for least numbers, 2 for greatest numbers
+abbrev pub valid_mode : ℕ → Option SummaryMode
+valid_mode n = if n == 0 then Some Sum else (if n == 1 then Some Min else (if n == 2 then Some Max else None))
+
+-- the error of a number that is no mode, or else another
+abbrev pub mode_refusal : (mode : ℕ) → Option ErrorKind → Option ErrorKind
+mode_refusal mode refusal = if is_some (valid_mode mode) then refusal else Some InvalidArgument
+
+-- the refusal of a new object of a mode: a mode or settings that none may have, or memory
+abbrev pub IsModeRefusal : (mode lg_k factor start seed status : ℕ) → Type 0
+IsModeRefusal mode lg_k factor start seed status =
+    let refusal = if is_some (valid_factor factor) then mode_refusal mode (settings_refusal lg_k start seed) else Some InvalidArgument in
+    IsRefusal refusal true status
 
 -- the hash of a seed was written, with status 0; a seed whose hash is 0 is refused with 1, and nothing is written
 abbrev pub WritesSeedHash : (seed before status after : ℕ) → Type 0

@@ -1,5 +1,5 @@
 -- Calls on unions of tuple sketches of sums.
-use Rattle.std.specs.Prelude.{◌≡◌, ◌≢◌, ◌⊎◌, ◌^◌, ℕ, List, true, not, None}
+use Rattle.std.specs.Prelude.{◌≡◌, ◌≢◌, ◌⊎◌, ◌^◌, ℕ, List, true, not, Some, None}
 use Rattle.std.specs.Int.{w64, to_le_bytes}
 use Rattle.sketch_base.specs.Seed.{seed_hash}
 use Rattle.sketch_base.specs.declared.error.ErrorKind.{ErrorKind}
@@ -9,13 +9,15 @@ use Rattle.core_laws.specs.Values.{cut_value}
 use Rattle.core_operators.specs.Union.{Union, empty_union, union_value, update_refusal, failure, JoinsSummaries}
 use Rattle.core_operators.specs.Union.{UnitesSummaries, IsUpdateError, lower_refusal, lower_allocates, lowered}
 use Rattle.core_policies.specs.Summaries.{combine_refused}
-use Rattle.core_policies.specs.Sums.{unsigned_sum}
-use Rattle.core_policies.specs.declared.default_union.DefaultUnionPolicy.{DefaultUnionPolicy}
 use Rattle.core_slots.specs.Entry.{tuple_key}
 use Rattle.core_slots.specs.declared.entry.TupleEntry.{TupleEntry}
 use Rattle.tuple_sketches.specs.Image.{written}
+use Rattle.tuple_sketches.specs.Numbers.{combined_number}
 use Rattle.tuple_sketches.specs.Sketch.{union_state}
+use Rattle.tuple_sketches.specs.declared.numbers.NumberPolicy.{NumberPolicy}
+use Rattle.tuple_sketches.specs.declared.numbers.SummaryMode.{SummaryMode}
 use Rattle.c_objects.specs.CompactSums.{OfSums}
+use Rattle.c_objects.specs.Settings.{valid_mode}
 use Rattle.c_objects.specs.Status.{status_of, IsRefusal}
 use Rattle.c_objects.specs.Sums.{sums_sketch}
 use Rattle.c_objects.specs.SumsStreams.{IsSumsUnionOfNone, GivesSumsPart, GivesSums, GivesLoweredSums, HasSumsUnion, IsSumsReadAs}
@@ -24,31 +26,40 @@ use Rattle.c_objects.specs.declared.sums.SeededSums.{SeededSums}
 use Rattle.c_objects.specs.declared.sums_union.SeededSumsUnion.{SeededSumsUnion}
 
 -- what contracts see of a union
-abbrev pub sums_union_of : SeededSumsUnion → Union (TupleEntry ℕ) (DefaultUnionPolicy ℕ)
+abbrev pub sums_union_of : SeededSumsUnion → Union (TupleEntry ℕ) NumberPolicy
 sums_union_of u = union_state u.union
 
--- a new union, without sketches, and given nothing
-abbrev pub IsNewSumsUnion : (lg_k start seed : ℕ) → SeededSumsUnion → Type 0
-IsNewSumsUnion lg_k start seed u =
+-- the mode of a union: how it combines the numbers of a hash
+abbrev pub sums_union_mode : SeededSumsUnion → SummaryMode
+sums_union_mode u = (sums_union_of u).policy.mode
+
+-- a new union of a mode, without sketches, and given nothing
+abbrev pub IsNewSumsUnion : SummaryMode → (lg_k start seed : ℕ) → SeededSumsUnion → Type 0
+IsNewSumsUnion mode lg_k start seed u =
     (u.seed ≡ seed)
-    × (sums_union_of u ≡ empty_union lg_k start (seed_hash seed) (sums_union_of u).policy)
+    × (sums_union_of u ≡ empty_union lg_k start (seed_hash seed) (record { mode = mode }))
     × IsSumsUnionOfNone lg_k start (sums_union_of u)
 
--- a sketch that shows this was merged: the union's value is united with the sketch's, in which the sums of one hash are added,
--- and an Empty sketch changes nothing; the union was given one part more
-abbrev pub MergesSums : Shown → (listing : List (TupleEntry ℕ)) → (old new : Union (TupleEntry ℕ) (DefaultUnionPolicy ℕ)) → Type 0
+-- a new union of the mode that a number names
+abbrev pub IsNewSumsUnionByMode : (mode lg_k start seed : ℕ) → SeededSumsUnion → Type 0
+IsNewSumsUnionByMode mode lg_k start seed u = (valid_mode mode ≡ Some (sums_union_mode u)) × IsNewSumsUnion (sums_union_mode u) lg_k start seed u
+
+-- a sketch that shows this was merged: the union's value is united with the sketch's, in which the numbers of one hash are
+-- combined as the union's mode says, and an Empty sketch changes nothing; the union was given one part more
+abbrev pub MergesSums : Shown → (listing : List (TupleEntry ℕ)) → (old new : Union (TupleEntry ℕ) NumberPolicy) → Type 0
 MergesSums shown listing old new =
     (update_refusal old shown ≡ None)
     × (shown.empty ≡ true → new ≡ old)
-    × UnitesSummaries (unsigned_sum 64) old new shown listing
-    × JoinsSummaries (unsigned_sum 64) old new shown listing
+    × UnitesSummaries (combined_number old.policy.mode) old new shown listing
+    × JoinsSummaries (combined_number old.policy.mode) old new shown listing
     × (new ≡ record old { empty = new.empty; content = new.content })
-    × GivesSumsPart (shown_value tuple_key shown listing) old new
+    × GivesSumsPart old.policy.mode (shown_value tuple_key shown listing) old new
 
 -- the error of a merge: the union refused the sketch and is unchanged; or memory was refused, or two sums of one hash are 2^64
 -- or more together, and the union has failed
-abbrev pub IsSumsMergeError : Shown → (listing : List (TupleEntry ℕ)) → (old new : Union (TupleEntry ℕ) (DefaultUnionPolicy ℕ)) → ErrorKind → Type 0
-IsSumsMergeError shown listing old new e = IsUpdateError tuple_key (combine_refused (unsigned_sum 64)) old new shown listing e
+abbrev pub IsSumsMergeError : Shown → (listing : List (TupleEntry ℕ)) → (old new : Union (TupleEntry ℕ) NumberPolicy) → ErrorKind → Type 0
+IsSumsMergeError shown listing old new e =
+    IsUpdateError tuple_key (combine_refused (combined_number old.policy.mode)) old new shown listing e
 
 -- a sketch was merged, with status 0; or the union refused it, with 1 for another seed and with 5 if it has failed, and is
 -- unchanged; or it has failed now, with 3 for memory and with 4 for a sum of 2^64 or more
@@ -61,10 +72,11 @@ AddsShownSums shown listing old status new =
 -- a sketch that takes updates was merged, as `AddsShownSums` says; with status 0 the union was given what the sketch was given
 abbrev pub AddsUpdatableSums : SeededSums → (old : SeededSumsUnion) → (status : ℕ) → (new : SeededSumsUnion) → Type 0
 AddsUpdatableSums t old status new =
-    OfSums AddsShownSums t old status new × (status ≡ 0 → GivesSums (sums_sketch t) (sums_union_of old) (sums_union_of new))
+    OfSums AddsShownSums t old status new
+    × (status ≡ 0 → GivesSums (sums_union_mode old) (sums_sketch t) (sums_union_of old) (sums_union_of new))
 
--- an ordered compact sketch of the union's value, with the least hashes of what the union was given and their sums; the union
--- hasn't failed
+-- an ordered compact sketch of the union's value, with the least hashes of what the union was given and their numbers; the
+-- union hasn't failed
 abbrev pub IsValueOfSums : SeededSumsUnion → Compact (TupleEntry ℕ) → Type 0
 IsValueOfSums u s =
     (failure (sums_union_of u).failed ≡ None)

@@ -50,9 +50,6 @@ impl HasImage for CompactSketch {
     ghost no_image = { λ _. IsMemoryRefusal };
 
     fn image(&self) -> Result<Vec<u8>, u32> {
-        // Called for their clauses alone: the sketch keeps the laws of compact sketches, and its seed hash has 16
-        // bits.
-        let _ = (self.sketch.num_retained(), self.sketch.seed_hash());
         match self.sketch.serialize() {
             Ok(image) => Ok(image),
             Err(_) => Err(OUT_OF_MEMORY),

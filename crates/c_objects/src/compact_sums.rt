@@ -53,8 +53,6 @@ impl HasTotal for CompactSums {
     ghost total_sum = { compact_total };
 
     fn total(&self) -> Wide {
-        // By its contract there are fewer than 2^32 entries.
-        let _ = self.sketch.num_retained();
         split(sum_of(self.sketch.iter()))
     }
 }
@@ -66,9 +64,6 @@ impl HasImage for CompactSums {
 
     fn image(&self) -> Result<Vec<u8>, u32> {
         read_again::<u64, Global>();
-        // Called for their clauses alone: the sketch keeps the laws of compact sketches, and its seed hash has 16
-        // bits.
-        let _ = (self.sketch.num_retained(), self.sketch.seed_hash());
         match self.sketch.serialize() {
             Ok(image) => Ok(image),
             Err(_) => Err(OUT_OF_MEMORY),

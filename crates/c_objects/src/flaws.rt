@@ -31,14 +31,20 @@ pub const FLAW_CUT: u32 = 7;
 /// Bytes follow the image.
 pub const FLAW_LONGER: u32 = 8;
 
-/// The preamble, the sketch type, theta or the hashes are not valid; it is also written for bytes without a flaw.
+/// The hashes or the summaries are not valid; it is also written for bytes without a flaw.
 pub const FLAW_DAMAGED: u32 = 9;
+
+/// The preamble has not 1 to 3 longs, or the image is of a sketch type that is not read.
+pub const FLAW_MALFORMED: u32 = 10;
+
+/// Theta is 0 or greater than 2^63 - 1.
+pub const FLAW_THETA: u32 = 11;
 
 /// What the preamble of bytes says of the image that they begin.
 #[repr(C)]
 #[derive(Clone, Copy)]
 pub struct Finding {
-    /// Why they are not one image, from 1 to 9: the first of the flaws that applies.
+    /// Why they are not one image, from 1 to 11: the first of the flaws that applies.
     pub flaw: u32,
     /// The byte of the family or of the version that is at fault; else 0.
     pub found: u32,
@@ -60,6 +66,8 @@ fn reason_of(flaw: Flaw) -> u32
         Flaw::Image(ImageFlaw::Cut) => FLAW_CUT,
         Flaw::Image(ImageFlaw::Longer) => FLAW_LONGER,
         Flaw::Image(ImageFlaw::Damaged) => FLAW_DAMAGED,
+        Flaw::Image(ImageFlaw::Malformed) => FLAW_MALFORMED,
+        Flaw::Image(ImageFlaw::Theta) => FLAW_THETA,
     }
 }
 

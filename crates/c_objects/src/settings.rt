@@ -2,12 +2,13 @@
 ghost use Rattle.std.specs.Prelude.{◌≡◌, ◌≤◌, ◌<◌, ◌^◌, option_map};
 ghost use Rattle.core_laws.specs.declared.TheConstants.{MAX_LG_K};
 ghost use Rattle.core_table.specs.ResizeFactor.{lg_of};
-ghost use Rattle.c_objects.specs.Settings.{valid_factor, valid_order, WritesSeedHash};
+ghost use Rattle.c_objects.specs.Settings.{valid_factor, valid_order, valid_mode, WritesSeedHash};
 
 use crate::status::{INVALID_ARGUMENT, OK};
 use core_laws::MAX_LG_K;
 use sketch_base::{ErrorKind, compute_seed_hash};
 use theta_sketches::ResizeFactor;
+use tuple_sketches::SummaryMode;
 
 /// The resize factor of a number, 1, 2, 4 or 8; `None` for any other number.
 pub fn factor_of(number: u32) -> Option<ResizeFactor>
@@ -42,6 +43,30 @@ pub fn order_of(number: u32) -> Option<bool>
         0 => Some(false),
         1 => Some(true),
         _ => None,
+    }
+}
+
+/// The sum of the values of a key.
+pub const SUM: u32 = 0;
+
+/// The least value of a key.
+pub const MIN: u32 = 1;
+
+/// The greatest value of a key.
+pub const MAX: u32 = 2;
+
+/// The mode of a number, which is `SUM`, `MIN` or `MAX`; `None` for any other number.
+pub fn mode_of(number: u32) -> Option<SummaryMode>
+    ensures { result ≡ valid_mode number }
+{
+    if number == SUM {
+        Some(SummaryMode::Sum)
+    } else if number == MIN {
+        Some(SummaryMode::Min)
+    } else if number == MAX {
+        Some(SummaryMode::Max)
+    } else {
+        None
     }
 }
 

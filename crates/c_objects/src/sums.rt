@@ -1,4 +1,4 @@
-//! Tuple sketches whose summaries are sums of 64 bits.
+//! Tuple sketches whose summaries are numbers of 64 bits: sums, or least or greatest numbers, as their mode says.
 ghost use Rattle.std.specs.Prelude.{true, IfOk};
 ghost use Rattle.core_laws.specs.Maps.{IsListing};
 ghost use Rattle.core_laws.specs.Refusal.{Refuses};
@@ -7,8 +7,10 @@ ghost use Rattle.core_slots.specs.Entry.{tuple_key};
 ghost use Rattle.c_objects.specs.CompactSums.{PutsEntries};
 ghost use Rattle.c_objects.specs.Orders.{IsCompactFormOfSumsIn, IsDifferenceOfSumsSketches};
 ghost use Rattle.c_objects.specs.Orders.{IsSumsSketchDifferenceRefusal, AreSumsSketchesOfSeed};
+ghost use Rattle.c_objects.specs.Settings.{mode_refusal};
 ghost use Rattle.c_objects.specs.Status.{IsMemoryRefusal};
-ghost use Rattle.c_objects.specs.Sums.{IsNewSums, IsSameSums, AddsValue, AddsAtBytes, AddsAtNumber, TrimsSums};
+ghost use Rattle.c_objects.specs.Sums.{IsNewSums, IsNewSumsByMode, IsSameSums};
+ghost use Rattle.c_objects.specs.Sums.{AddsValue, AddsAtBytes, AddsAtNumber, TrimsSums};
 ghost use Rattle.c_objects.specs.Sums.{ResetsSums, sums_sketch, sums_state, sums_total, IsImageOfSums};
 ghost use Rattle.c_objects.specs.declared.sums.SeededSums.{SeededSums};
 
@@ -19,6 +21,7 @@ use crate::hashes::{hash_of_bytes, hash_of_number};
 use crate::objects::{
     CanCopy, CanReset, CanTrim, HasCompact, HasDifference, HasImage, HasSize, HasState, HasTotal,
 };
+use crate::settings::mode_of;
 use crate::state::State;
 use crate::status::{OK, OUT_OF_MEMORY, status_of};
 use core_laws::MAX_LG_K;
@@ -26,18 +29,18 @@ use sketch_base::{Error, ErrorKind};
 use std::alloc::Global;
 use totals::sum_of;
 use tuple_sketches::{
-    DefaultUpdatePolicy, ResizeFactor, TupleANotB, TupleSketch, TupleSketchBuilder,
+    NumberPolicy, ResizeFactor, SummaryMode, TupleANotB, TupleSketch, TupleSketchBuilder,
 };
 
-/// A sketch of sums, and the seed of its hashes.
+/// A sketch of numbers under the policy of a mode, and the seed of its hashes.
 #[derive(Drop)]
 pub struct SeededSums {
-    pub(crate) sketch: TupleSketch<DefaultUpdatePolicy<u64>>,
+    pub(crate) sketch: TupleSketch<NumberPolicy>,
     pub(crate) seed: u64,
 }
 
-/// A new sketch of 2^`lg_k` nominal entries, `lg_k` from 4 to 26, whose slots grow by a resize factor and which
-/// begins at a theta from 1 to `MAX_THETA`. Refused with `InvalidArgument` if a setting is out of range or the hash
+/// A new sketch of a mode, of 2^`lg_k` nominal entries, `lg_k` from 4 to 26, whose slots grow by a resize factor and
+/// which begins at a theta from 1 to `MAX_THETA`. Refused with `InvalidArgument` if a setting is out of range or the hash
 /// of the seed is 0, and with `OutOfMemory`.
 pub fn build(
     alloc: Global,
@@ -45,14 +48,15 @@ pub fn build(
     factor: ResizeFactor,
     start: u64,
     seed: u64,
+    mode: SummaryMode,
 ) -> Result<SeededSums, Error>
-    ensures made { IfOk result (λ t. IsNewSums lg_k start seed t) }
+    ensures made { IfOk result (λ t. IsNewSums mode lg_k start seed t) }
     ensures refused { Refuses result (settings_refusal lg_k start seed) true }
 {
     if lg_k > MAX_LG_K as u32 {
         return Err(Error::new(ErrorKind::InvalidArgument));
     }
-    let sketch = TupleSketchBuilder::new(DefaultUpdatePolicy::<u64>::default())
+    let sketch = TupleSketchBuilder::new(NumberPolicy::new(mode))
         .lg_k(lg_k as u8)
         .resize_factor(factor)
         .starting_theta(start)
@@ -61,8 +65,27 @@ pub fn build(
     Ok(SeededSums { sketch, seed })
 }
 
-/// Adds a value to the sum of a hash, which is 0 at first. The status is `OK`, `POLICY` if the sum would be 2^64 or
-/// more, or `OUT_OF_MEMORY` for a new hash below theta.
+/// A new sketch of the mode of a number: 0 for sums, 1 for least numbers, 2 for greatest numbers. Refused as `build`
+/// is, and with `InvalidArgument` for any other number.
+pub fn build_by_mode(
+    alloc: Global,
+    lg_k: u32,
+    factor: ResizeFactor,
+    start: u64,
+    seed: u64,
+    mode: u32,
+) -> Result<SeededSums, Error>
+    ensures made { IfOk result (λ t. IsNewSumsByMode mode lg_k start seed t) }
+    ensures refused { Refuses result (mode_refusal mode (settings_refusal lg_k start seed)) true }
+{
+    match mode_of(mode) {
+        Some(valid) => build(alloc, lg_k, factor, start, seed, valid),
+        None => Err(Error::new(ErrorKind::InvalidArgument)),
+    }
+}
+
+/// Adds a value to the sum of a hash, which is 0 at first, or keeps the less or the greater, as the sketch's mode
+/// says. The status is `OK`, `POLICY` if a sum would be 2^64 or more, or `OUT_OF_MEMORY` for a new hash below theta.
 #[inline(always)]
 pub fn add_at_hash(sums: &mut SeededSums, hash: u64, value: u64) -> u32
     ensures { AddsValue hash value sums.old result sums.new }
@@ -73,8 +96,8 @@ pub fn add_at_hash(sums: &mut SeededSums, hash: u64, value: u64) -> u32
     }
 }
 
-/// Adds a value to the sum of a number, by the hash of its eight bytes, the lowest first. Refused as `add_at_hash`
-/// is.
+/// Adds a value to that of a key that is a number, by the hash of its eight bytes, the lowest first. Refused as
+/// `add_at_hash` is.
 #[inline(always)]
 pub fn add_at_number(sums: &mut SeededSums, number: u64, value: u64) -> u32
     ensures { AddsAtNumber number value sums.old result sums.new }
@@ -83,7 +106,7 @@ pub fn add_at_number(sums: &mut SeededSums, number: u64, value: u64) -> u32
     add_at_hash(sums, hash, value)
 }
 
-/// Adds a value to the sum of bytes, by their hash. Refused as `add_at_hash` is.
+/// Adds a value to that of a key that is bytes, by their hash. Refused as `add_at_hash` is.
 #[inline(always)]
 pub fn add_at_bytes(sums: &mut SeededSums, bytes: &[u8], value: u64) -> u32
     ensures { AddsAtBytes bytes.now value sums.old result sums.new }
@@ -92,7 +115,7 @@ pub fn add_at_bytes(sums: &mut SeededSums, bytes: &[u8], value: u64) -> u32
     add_at_hash(sums, hash, value)
 }
 
-/// Copies the hashes and the sums of a sketch, each once in some order, to the fronts of two arrays, and writes how
+/// Copies the hashes and the numbers of a sketch, each once in some order, to the fronts of two arrays, and writes how
 /// many they are. The status is `OK`, or `TOO_SMALL` if an array has no room for them.
 pub fn put_entries_of(
     sketch: &SeededSums,
@@ -140,8 +163,6 @@ impl HasTotal for SeededSums {
     ghost total_sum = { sums_total };
 
     fn total(&self) -> Wide {
-        // By its contract there are fewer than 2^32 entries.
-        let _ = self.sketch.num_retained();
         split(sum_of(self.sketch.iter()))
     }
 }

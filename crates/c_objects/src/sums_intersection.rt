@@ -1,4 +1,4 @@
-//! Intersections of tuple sketches of sums.
+//! Intersections of tuple sketches of sums, or of least or greatest numbers.
 ghost use Rattle.std.specs.Prelude.{true, None, IfOk};
 ghost use Rattle.core_laws.specs.Refusal.{Refuses};
 ghost use Rattle.core_operators.specs.Intersection.{seed_refusal};
@@ -6,34 +6,49 @@ ghost use Rattle.core_slots.specs.Entry.{tuple_key};
 ghost use Rattle.core_state.specs.View.{shows, sequence};
 ghost use Rattle.c_objects.specs.CompactSums.{OfCompactSums, OfSumsImage};
 ghost use Rattle.c_objects.specs.Orders.{IsSumsIntersectionResultIn};
-ghost use Rattle.c_objects.specs.SumsIntersection.{IsNewSumsIntersection, MeetsShownSums, MeetsUpdatableSums};
-ghost use Rattle.c_objects.specs.SumsIntersection.{IsNoSumsResult};
+ghost use Rattle.c_objects.specs.Settings.{mode_refusal};
+ghost use Rattle.c_objects.specs.SumsIntersection.{IsNewSumsIntersection, IsNewSumsIntersectionByMode};
+ghost use Rattle.c_objects.specs.SumsIntersection.{MeetsShownSums, MeetsUpdatableSums, IsNoSumsResult};
 ghost use Rattle.c_objects.specs.declared.sums_intersection.SeededSumsIntersection.{SeededSumsIntersection};
 
 use crate::compact_sums::CompactSums;
 use crate::objects::{Accepts, AcceptsImages, FromImage, HasCompact, HasSize};
+use crate::settings::mode_of;
 use crate::status::{INVALID_ARGUMENT, OK, OUT_OF_MEMORY, status_of};
 use crate::sums::SeededSums;
-use sketch_base::Error;
+use sketch_base::{Error, ErrorKind};
 use std::alloc::Global;
-use tuple_sketches::{DefaultUnionPolicy, TupleIntersection, TupleSketchView};
+use tuple_sketches::{NumberPolicy, SummaryMode, TupleIntersection, TupleSketchView};
 
-/// An intersection of sketches of sums, and the seed of its sketches. The sums of one hash are added, as in a union.
+/// An intersection of sketches of numbers under the policy of a mode, and the seed of its sketches. The numbers of one
+/// hash are combined as in a union.
 #[derive(Drop)]
 pub struct SeededSumsIntersection {
-    intersection: TupleIntersection<DefaultUnionPolicy<u64>>,
+    intersection: TupleIntersection<NumberPolicy>,
     seed: u64,
 }
 
-/// A new intersection, without a value. Refused with `InvalidArgument` if the hash of the seed is 0, and with
+/// A new intersection of a mode, without a value. Refused with `InvalidArgument` if the hash of the seed is 0, and with
 /// `OutOfMemory`.
-pub fn build(alloc: Global, seed: u64) -> Result<SeededSumsIntersection, Error>
-    ensures made { IfOk result (λ i. IsNewSumsIntersection seed i) }
+pub fn build(alloc: Global, seed: u64, mode: SummaryMode) -> Result<SeededSumsIntersection, Error>
+    ensures made { IfOk result (λ i. IsNewSumsIntersection mode seed i) }
     ensures refused { Refuses result (seed_refusal seed) true }
 {
-    let policy = DefaultUnionPolicy::<u64>::default();
+    let policy = NumberPolicy::new(mode);
     let intersection = TupleIntersection::with_seed(alloc, policy, seed)?;
     Ok(SeededSumsIntersection { intersection, seed })
+}
+
+/// A new intersection of the mode of a number: 0 for sums, 1 for least numbers, 2 for greatest numbers. Refused as
+/// `build` is, and with `InvalidArgument` for any other number.
+pub fn build_by_mode(alloc: Global, seed: u64, mode: u32) -> Result<SeededSumsIntersection, Error>
+    ensures made { IfOk result (λ i. IsNewSumsIntersectionByMode mode seed i) }
+    ensures refused { Refuses result (mode_refusal mode (seed_refusal seed)) true }
+{
+    match mode_of(mode) {
+        Some(valid) => build(alloc, seed, valid),
+        None => Err(Error::new(ErrorKind::InvalidArgument)),
+    }
 }
 
 #[tactic(auto, unfolding(crate::specs::SumsIntersection::MeetsShownSums))]

@@ -1,4 +1,4 @@
-//! Unions of tuple sketches of sums.
+//! Unions of tuple sketches of sums, or of least or greatest numbers.
 ghost use Rattle.std.specs.Prelude.{true, IfOk};
 ghost use Rattle.core_laws.specs.Refusal.{Refuses};
 ghost use Rattle.core_laws.specs.Settings.{settings_refusal};
@@ -6,31 +6,33 @@ ghost use Rattle.core_slots.specs.Entry.{tuple_key};
 ghost use Rattle.core_state.specs.View.{shows, sequence};
 ghost use Rattle.c_objects.specs.CompactSums.{OfCompactSums, OfSumsImage};
 ghost use Rattle.c_objects.specs.Orders.{IsSumsUnionResultIn};
-ghost use Rattle.c_objects.specs.SumsUnion.{IsNewSumsUnion, AddsShownSums, AddsUpdatableSums, IsSumsUnionImage};
+ghost use Rattle.c_objects.specs.Settings.{mode_refusal};
+ghost use Rattle.c_objects.specs.SumsUnion.{IsNewSumsUnion, IsNewSumsUnionByMode};
+ghost use Rattle.c_objects.specs.SumsUnion.{AddsShownSums, AddsUpdatableSums, IsSumsUnionImage};
 ghost use Rattle.c_objects.specs.SumsUnion.{IsSumsResultRefusal, LowersSumsUnion, ResetsSumsUnion};
 ghost use Rattle.c_objects.specs.declared.sums_union.SeededSumsUnion.{SeededSumsUnion};
 
 use crate::compact_sums::CompactSums;
 use crate::objects::{Accepts, AcceptsImages, CanReset, FromImage, HasCompact, HasImage, HasSize};
-use crate::settings::bounded_lg_k;
+use crate::settings::{bounded_lg_k, mode_of};
 use crate::status::{OK, status_of};
 use crate::sums::SeededSums;
 use core_laws::MAX_LG_K;
 use sketch_base::{Error, ErrorKind};
 use std::alloc::Global;
 use tuple_sketches::{
-    DefaultUnionPolicy, ResizeFactor, TupleSketchView, TupleUnion, TupleUnionBuilder,
+    NumberPolicy, ResizeFactor, SummaryMode, TupleSketchView, TupleUnion, TupleUnionBuilder,
 };
 
-/// A union of sketches of sums, and the seed of its sketches.
+/// A union of sketches of numbers under the policy of a mode, and the seed of its sketches.
 #[derive(Drop)]
 pub struct SeededSumsUnion {
-    union: TupleUnion<DefaultUnionPolicy<u64>>,
+    union: TupleUnion<NumberPolicy>,
     seed: u64,
 }
 
-/// A new union of 2^`lg_k` nominal entries, `lg_k` from 4 to 26, whose slots grow by a resize factor and which begins
-/// at a theta from 1 to `MAX_THETA`. Refused with `InvalidArgument` if a setting is out of range or the hash of the
+/// A new union of a mode, of 2^`lg_k` nominal entries, `lg_k` from 4 to 26, whose slots grow by a resize factor and
+/// which begins at a theta from 1 to `MAX_THETA`. Refused with `InvalidArgument` if a setting is out of range or the hash of the
 /// seed is 0, and with `OutOfMemory`.
 pub fn build(
     alloc: Global,
@@ -38,20 +40,40 @@ pub fn build(
     factor: ResizeFactor,
     start: u64,
     seed: u64,
+    mode: SummaryMode,
 ) -> Result<SeededSumsUnion, Error>
-    ensures made { IfOk result (λ u. IsNewSumsUnion lg_k start seed u) }
+    ensures made { IfOk result (λ u. IsNewSumsUnion mode lg_k start seed u) }
     ensures refused { Refuses result (settings_refusal lg_k start seed) true }
 {
     if lg_k > MAX_LG_K as u32 {
         return Err(Error::new(ErrorKind::InvalidArgument));
     }
-    let union = TupleUnionBuilder::new(DefaultUnionPolicy::<u64>::default())
+    let union = TupleUnionBuilder::new(NumberPolicy::new(mode))
         .lg_k(lg_k as u8)
         .resize_factor(factor)
         .starting_theta(start)
         .seed(seed)
         .build(alloc)?;
     Ok(SeededSumsUnion { union, seed })
+}
+
+/// A new union of the mode of a number: 0 for sums, 1 for least numbers, 2 for greatest numbers. Refused as `build`
+/// is, and with `InvalidArgument` for any other number.
+pub fn build_by_mode(
+    alloc: Global,
+    lg_k: u32,
+    factor: ResizeFactor,
+    start: u64,
+    seed: u64,
+    mode: u32,
+) -> Result<SeededSumsUnion, Error>
+    ensures made { IfOk result (λ u. IsNewSumsUnionByMode mode lg_k start seed u) }
+    ensures refused { Refuses result (mode_refusal mode (settings_refusal lg_k start seed)) true }
+{
+    match mode_of(mode) {
+        Some(valid) => build(alloc, lg_k, factor, start, seed, valid),
+        None => Err(Error::new(ErrorKind::InvalidArgument)),
+    }
 }
 
 /// Lowers a union to 2^`lg_k` nominal entries, as `union::lower` does.

@@ -6,13 +6,14 @@ use crate::plan_texts::put_command;
 use calls_language::arguments::{put_number, two_words};
 use calls_language::object::{Call, Memory, Object};
 use calls_language::words::{Fault, number};
-use calls_policies::{Digits, FromWord, Greatest, RefusesOne, Summary, Unmade, UnwrittenSums};
+use calls_policies::{Digits, FromWord, RefusesOne, Summary, Unmade, UnwrittenSums};
 use plan_evaluation::{evaluate_sums, evaluate_theta, evaluate_tuple};
 use plan_text::{Command, Fault as TextFault, Levels, Plan, read_plan};
 use sketch_base::ErrorKind;
 use std::alloc::{AllocError, Allocator, Global};
 use tuple_sketches::{
-    DefaultUnionPolicy, DefaultUpdatePolicy, SummaryCombinePolicy, SummaryUpdatePolicy,
+    DefaultUnionPolicy, DefaultUpdatePolicy, NumberPolicy, SummaryCombinePolicy,
+    SummaryUpdatePolicy,
 };
 
 /// A text's command, or why it has none.
@@ -76,7 +77,10 @@ fn put_tuple<A: Allocator + Copy + Drop>(
             let unions = DefaultUnionPolicy::<u64>::default();
             put_evaluated(answer, alloc, plan, seed, updates, unions)
         }
-        "greatest" => put_evaluated(answer, alloc, plan, seed, Greatest, Greatest),
+        "least" | "greatest" => {
+            let policy = NumberPolicy::from_word(alloc, policy)?;
+            put_evaluated(answer, alloc, plan, seed, policy, policy)
+        }
         "digits" => put_evaluated(answer, alloc, plan, seed, Digits, Digits),
         "unmade" => put_evaluated(answer, alloc, plan, seed, Unmade, Unmade),
         "unwritten" => put_evaluated(answer, alloc, plan, seed, UnwrittenSums, UnwrittenSums),

@@ -7,6 +7,6 @@ mod summaries;
 mod unwritten;
 
 pub use letters::{Appending, Letters};
-pub use policies::{Digits, FromWord, Greatest, RefusesOne, Unmade};
+pub use policies::{Digits, FromWord, RefusesOne, Unmade};
 pub use summaries::Summary;
 pub use unwritten::{Unwritten, UnwrittenSums};

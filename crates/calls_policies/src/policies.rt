@@ -1,12 +1,12 @@
 //! Policies of tuple sketches whose summaries are numbers of 64 bits, and how lines name policies.
-ghost use Rattle.std.specs.Prelude.{◌≡◌, Some, None, false, true, max, nat_lt, if◌then◌else◌, ◌+◌, ◌*◌, ◌^◌, ◌==◌};
+ghost use Rattle.std.specs.Prelude.{◌≡◌, Some, None, false, true, nat_lt, if◌then◌else◌, ◌+◌, ◌*◌, ◌^◌, ◌==◌};
 ghost use Rattle.std.specs.Prelude.{◌||◌};
 
 use calls_language::words::{Fault, number};
 use sketch_base::{Error, ErrorKind};
 use tuple_sketches::{
-    DefaultUnionPolicy, DefaultUpdatePolicy, SummaryCombinePolicy, SummaryPolicy,
-    SummaryUpdatePolicy,
+    DefaultUnionPolicy, DefaultUpdatePolicy, NumberPolicy, SummaryCombinePolicy, SummaryMode,
+    SummaryPolicy, SummaryUpdatePolicy,
 };
 
 /// A policy that a word of a line names. What its summaries have outside themselves is in memory of `A`.
@@ -27,42 +27,14 @@ impl<A: Drop, S> FromWord<A> for DefaultUnionPolicy<S> {
     }
 }
 
-/// Keeps the greatest number.
-#[derive(Clone, Copy)]
-pub struct Greatest;
-
-impl SummaryPolicy for Greatest {
-    type Summary = u64;
-
-    ghost creates = { λ policy. Some 0 };
-
-    ghost takes_memory = { λ policy. false };
-
-    fn create(&self) -> Result<u64, Error> {
-        Ok(0)
-    }
-}
-
-impl SummaryUpdatePolicy<u64> for Greatest {
-    ghost updates = { λ policy greatest value. Some (max greatest value) };
-
-    fn update(&self, greatest: &mut u64, value: u64) -> Result<(), Error> {
-        *greatest = value.max(*greatest);
-        Ok(())
-    }
-}
-
-impl SummaryCombinePolicy for Greatest {
-    ghost combines = { λ policy greatest value. Some (max greatest value) };
-
-    fn combine(&self, greatest: &mut u64, incoming: &u64) -> Result<(), Error> {
-        self.update(greatest, *incoming)
-    }
-}
-
-impl<A: Drop> FromWord<A> for Greatest {
-    fn from_word(_alloc: A, _word: &str) -> Result<Self, Fault> {
-        Ok(Greatest)
+impl<A: Drop> FromWord<A> for NumberPolicy {
+    fn from_word(_alloc: A, word: &str) -> Result<Self, Fault> {
+        let mode = match word {
+            "least" => SummaryMode::Min,
+            "greatest" => SummaryMode::Max,
+            _ => SummaryMode::Sum,
+        };
+        Ok(NumberPolicy::new(mode))
     }
 }
 

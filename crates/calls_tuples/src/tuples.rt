@@ -7,11 +7,9 @@ use crate::tuple_union::TupleUnionObject;
 use calls_language::driver::{Line, answer_line};
 use calls_language::object::Heap;
 use calls_language::words::cut_word;
-use calls_policies::{
-    Appending, Digits, Greatest, Letters, RefusesOne, Unmade, Unwritten, UnwrittenSums,
-};
+use calls_policies::{Appending, Digits, Letters, RefusesOne, Unmade, Unwritten, UnwrittenSums};
 use std::alloc::AllocError;
-use tuple_sketches::{DefaultUnionPolicy, DefaultUpdatePolicy};
+use tuple_sketches::{DefaultUnionPolicy, DefaultUpdatePolicy, NumberPolicy};
 
 /// The policy of sketches of sums.
 type Updating<S> = DefaultUpdatePolicy<S>;
@@ -38,7 +36,7 @@ pub fn sketch(heap: &Heap, line: Line<'_>, out: &mut String) -> Result<(), Alloc
         "sums:i64" => answer_line::<Shared<'_>, TupleSketchObject<Updating<i64>, _>>(
             heap, heap, line, out,
         ),
-        "greatest" => answer_line::<Shared<'_>, TupleSketchObject<Greatest, _>>(
+        "least" | "greatest" => answer_line::<Shared<'_>, TupleSketchObject<NumberPolicy, _>>(
             heap, heap, line, out,
         ),
         "digits" => answer_line::<Shared<'_>, TupleSketchObject<Digits, _>>(heap, heap, line, out),
@@ -69,9 +67,10 @@ pub fn union(heap: &Heap, line: Line<'_>, out: &mut String) -> Result<(), AllocE
         "sums:i64" => answer_line::<Shared<'_>, TupleUnionObject<Updating<i64>, Uniting<i64>, _>>(
             heap, heap, line, out,
         ),
-        "greatest" => answer_line::<Shared<'_>, TupleUnionObject<Updating<u64>, Greatest, _>>(
-            heap, heap, line, out,
-        ),
+        "least" | "greatest" => answer_line::<
+            Shared<'_>,
+            TupleUnionObject<Updating<u64>, NumberPolicy, _>,
+        >(heap, heap, line, out),
         "digits" => answer_line::<Shared<'_>, TupleUnionObject<Updating<u64>, Digits, _>>(
             heap, heap, line, out,
         ),
@@ -110,9 +109,9 @@ pub fn intersection(heap: &Heap, line: Line<'_>, out: &mut String) -> Result<(),
             Shared<'_>,
             TupleIntersectionObject<Updating<i64>, Uniting<i64>, _>,
         >(heap, heap, line, out),
-        "greatest" => answer_line::<
+        "least" | "greatest" => answer_line::<
             Shared<'_>,
-            TupleIntersectionObject<Updating<u64>, Greatest, _>,
+            TupleIntersectionObject<Updating<u64>, NumberPolicy, _>,
         >(heap, heap, line, out),
         "digits" => answer_line::<Shared<'_>, TupleIntersectionObject<Updating<u64>, Digits, _>>(
             heap, heap, line, out,

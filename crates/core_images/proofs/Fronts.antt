@@ -11,7 +11,7 @@ use Rattle.core_images.specs.Head.{longs_at, version_at, family_at, type_at, has
 use Rattle.core_images.specs.Preamble.{number_at, has_bit, is_empty, is_ordered, is_vacant, seed_hash_at, count_at, theta_at, announced}
 use Rattle.core_images.specs.Read.{LeavesOpen}
 use Rattle.core_images.specs.declared.flaw.Flaw.{Flaw}
-use Rattle.core_images.specs.declared.flaw.Flaw.TheVariants.{Short, Family, Version, Cut, Damaged}
+use Rattle.core_images.specs.declared.flaw.Flaw.TheVariants.{Short, Family, Version, Malformed, Cut}
 use Rattle.core_images.specs.declared.head.Head.{Head}
 use Rattle.core_images.specs.declared.preamble.ImageLayout.{ImageLayout}
 use Rattle.core_images.specs.declared.preamble.ImageLayout.TheVariants.{Empty, Filled}
@@ -136,7 +136,7 @@ module _ (bytes : List ℕ) (n : ℕ) (head : Head) (long : 8 ≤ n) (enough : h
       let from_1 = unflagged_head bytes 3 None in
       let from_2 = cond (eqb version 2) (version_2_head bytes) from_1 in
       let from_3 = cond (eqb version 3) (flagged_head 8 bytes longs) from_2 in
-      let by_longs = cond (not (has_longs bytes)) (Err Damaged) from_3 in
+      let by_longs = cond (not (has_longs bytes)) (Err Malformed) from_3 in
       let read = leb 1 version && leb version 3 in
       let by_version = cond (not read) (Err (Version version)) by_longs in
       let by_family = cond (not (eqb family 3)) (Err (Family family)) by_version in
@@ -146,8 +146,8 @@ module _ (bytes : List ℕ) (n : ℕ) (head : Head) (long : 8 ≤ n) (enough : h
           | inl b ↦ absurd (no_head (Family family) head b.1)
           | inr b ↦ elim (chosen Is (not read) (Err (Version version)) by_longs b.1) [
             | inl c ↦ absurd (no_head (Version version) head c.1)
-            | inr c ↦ elim (chosen Is (not (has_longs bytes)) (Err Damaged) from_3 c.1) [
-              | inl d ↦ absurd (no_head Damaged head d.1)
+            | inr c ↦ elim (chosen Is (not (has_longs bytes)) (Err Malformed) from_3 c.1) [
+              | inl d ↦ absurd (no_head Malformed head d.1)
               | inr d ↦
                   let fit = low_of longs (fits (has_longs bytes) d.0) in
                   elim (chosen Is (eqb version 3) (flagged_head 8 bytes longs) from_2 d.1) [
@@ -179,7 +179,7 @@ module _ (bytes : List ℕ) (n : ℕ) (head : Head) (long : 8 ≤ n) (enough : h
       let family = family_at bytes in
       let known = has_longs bytes && is_sketch_type (type_at bytes) in
       let last = flagged_head size bytes longs in
-      let by_longs = cond (not known) (Err Damaged) last in
+      let by_longs = cond (not known) (Err Malformed) last in
       let by_version = cond (not (is_tuple_version version)) (Err (Version version)) by_longs in
       let by_family = cond (not (eqb family 9)) (Err (Family family)) by_version in
       elim (chosen Is (ltb (length bytes) 8) (Err Short) by_family is) [
@@ -188,8 +188,8 @@ module _ (bytes : List ℕ) (n : ℕ) (head : Head) (long : 8 ≤ n) (enough : h
           | inl b ↦ absurd (no_head (Family family) head b.1)
           | inr b ↦ elim (chosen Is (not (is_tuple_version version)) (Err (Version version)) by_longs b.1) [
             | inl c ↦ absurd (no_head (Version version) head c.1)
-            | inr c ↦ elim (chosen Is (not known) (Err Damaged) last c.1) [
-              | inl d ↦ absurd (no_head Damaged head d.1)
+            | inr c ↦ elim (chosen Is (not known) (Err Malformed) last c.1) [
+              | inl d ↦ absurd (no_head Malformed head d.1)
               | inr d ↦
                   let fit = low_of longs (both_true (has_longs bytes) (is_sketch_type (type_at bytes)) (fits known d.0)).0 in
                   rw (front_whole 8 long, b3, b2, b1, b0, b.0, c.0, d.0) (flagged_same size longs fit.0 fit.1 d.1)

@@ -10,7 +10,7 @@ use Rattle.core_images.specs.Head.{longs_at, version_at, family_at, type_at, has
 use Rattle.core_images.specs.Entry.{state_after_preamble, HasEntries}
 use Rattle.core_laws.specs.declared.TheConstants.{MAX_THETA}
 use Rattle.core_images.specs.declared.flaw.Flaw.{Flaw}
-use Rattle.core_images.specs.declared.flaw.Flaw.TheVariants.{Short, Family, Version, Cut, Seed, Damaged}
+use Rattle.core_images.specs.declared.flaw.Flaw.TheVariants.{Short, Family, Version, Malformed, Cut, Seed, Theta}
 use Rattle.core_images.specs.declared.head.Head.{Head}
 use Rattle.core_images.specs.declared.preamble.ImageLayout.{ImageLayout}
 use Rattle.core_images.specs.declared.preamble.ImageLayout.TheVariants.{Empty, Filled}
@@ -74,13 +74,13 @@ theta_whole bytes =
     let seed = Some (seed_hash_at bytes) in
     let from_2 = cond (eqb longs 1) (Ok (vacant 8)) (unflagged_head bytes longs seed) in
     let third = cond (eqb version 3) (flagged_head 8 bytes longs) (cond (eqb version 2) from_2 (unflagged_head bytes 3 None)) in
-    let second = cond (not (has_longs bytes)) (Err Damaged) third in
+    let second = cond (not (has_longs bytes)) (Err Malformed) third in
     let first = cond (not (leb 1 version && leb version 3)) (Err (Version version)) second in
     either P (ltb (length bytes) 8) (Err Short) (cond (not (eqb family 3)) (Err (Family family)) first) (λ e. tt) (λ e.
     let whole : 8 ≤ length bytes = grind (arith, nat_tests, e) in
     either P (not (eqb family 3)) (Err (Family family)) first (λ f. tt) (λ f.
     either P (not (leb 1 version && leb version 3)) (Err (Version version)) second (λ g. tt) (λ g.
-    either P (not (has_longs bytes)) (Err Damaged) third (λ l. tt) (λ l.
+    either P (not (has_longs bytes)) (Err Malformed) third (λ l. tt) (λ l.
     let low : 1 ≤ longs = grind (arith, nat_tests, (both_true (leb 1 longs) (leb longs 3) (not_false (has_longs bytes) l)).0) in
     either P (eqb version 3) (flagged_head 8 bytes longs) (cond (eqb version 2) from_2 (unflagged_head bytes 3 None)) (λ a. flagged_whole 8 bytes longs whole low) (λ a.
     either P (eqb version 2) from_2 (unflagged_head bytes 3 None) (λ b.
@@ -95,13 +95,13 @@ tuple_whole size bytes =
     let version = version_at bytes in
     let family = family_at bytes in
     let known = has_longs bytes && is_sketch_type (type_at bytes) in
-    let last = cond (not known) (Err Damaged) (flagged_head size bytes longs) in
+    let last = cond (not known) (Err Malformed) (flagged_head size bytes longs) in
     let first = cond (not (is_tuple_version version)) (Err (Version version)) last in
     either P (ltb (length bytes) 8) (Err Short) (cond (not (eqb family 9)) (Err (Family family)) first) (λ e. tt) (λ e.
     let whole : 8 ≤ length bytes = grind (arith, nat_tests, e) in
     either P (not (eqb family 9)) (Err (Family family)) first (λ f. tt) (λ f.
     either P (not (is_tuple_version version)) (Err (Version version)) last (λ g. tt) (λ g.
-    either P (not known) (Err Damaged) (flagged_head size bytes longs) (λ l. tt) (λ l.
+    either P (not known) (Err Malformed) (flagged_head size bytes longs) (λ l. tt) (λ l.
     let fit = both_true (leb 1 longs) (leb longs 3) (both_true (has_longs bytes) (is_sketch_type (type_at bytes)) (not_false known l)).0 in
     flagged_whole size bytes longs whole (grind (arith, nat_tests, fit.0))))))
 
@@ -114,11 +114,11 @@ pub layout_whole : (size : ℕ) (bytes : List ℕ) (h : ℕ) (head : Result Head
 unfolding layout_of
 layout_whole size bytes h (Err flaw) w = tt
 layout_whole size bytes h (Ok head) w =
-    let last = cond (not (has_theta head.layout)) (Err Damaged) (Ok head.layout) in
+    let last = cond (not (has_theta head.layout)) (Err Theta) (Ok head.layout) in
     let seeded = cond (not (ltb 0 h && is_of_seed h head.seed_hash)) (Err Seed) last in
     either (IsWholeLayout bytes) (ltb (length bytes) head.length) (Err Cut) seeded (λ e. tt) (λ e.
     either (IsWholeLayout bytes) (not (ltb 0 h && is_of_seed h head.seed_hash)) (Err Seed) last (λ f. tt) (λ f.
-    either (IsWholeLayout bytes) (not (has_theta head.layout)) (Err Damaged) (Ok head.layout) (λ g. tt) (λ g. admitted_whole size bytes head.layout head.length w g)))
+    either (IsWholeLayout bytes) (not (has_theta head.layout)) (Err Theta) (Ok head.layout) (λ g. tt) (λ g. admitted_whole size bytes head.layout head.length w g)))
 
 -- ---- what an image is read as, by its head
 
@@ -175,13 +175,13 @@ module _ {X : Type 0} (key : X → ℕ) (Spells : List ℕ → X → Type 0) (by
   open_to present (Err flaw) s q = absurd q
   open_to present (Ok head) s q =
       let P : Result ImageLayout Flaw → Type 0 = λ l. Comes l s in
-      let last = cond (not (has_theta head.layout)) (Err Damaged) (Ok head.layout) in
+      let last = cond (not (has_theta head.layout)) (Err Theta) (Ok head.layout) in
       let seeded = cond (not (ltb 0 h && is_of_seed h head.seed_hash)) (Err Seed) last in
       elim (chosen P (ltb present head.length) (Err Cut) seeded q) [
         | inl a ↦ absurd a.1
         | inr a ↦ elim (chosen P (not (ltb 0 h && is_of_seed h head.seed_hash)) (Err Seed) last a.1) [
           | inl b ↦ absurd b.1
-          | inr b ↦ elim (chosen P (not (has_theta head.layout)) (Err Damaged) (Ok head.layout) b.1) [
+          | inr b ↦ elim (chosen P (not (has_theta head.layout)) (Err Theta) (Ok head.layout) b.1) [
             | inl c ↦ absurd c.1
             | inr c ↦
                 let both = both_true (ltb 0 h) (is_of_seed h head.seed_hash) (not_false (ltb 0 h && is_of_seed h head.seed_hash) b.0) in

@@ -9,7 +9,7 @@ use Rattle.core_images.specs.declared.preamble.ImageLayout.{ImageLayout}
 use Rattle.core_images.specs.declared.preamble.ImageLayout.TheVariants.{Empty, Filled}
 use Rattle.core_images.specs.declared.head.Head.{Head}
 use Rattle.core_images.specs.declared.flaw.Flaw.{Flaw}
-use Rattle.core_images.specs.declared.flaw.Flaw.TheVariants.{Short, Family, Version, BigEndian, Cut, Seed, Damaged, Longer}
+use Rattle.core_images.specs.declared.flaw.Flaw.TheVariants.{Short, Family, Version, BigEndian, Malformed, Cut, Seed, Theta, Damaged, Longer}
 
 -- the first bytes of an image: the count of its preamble longs, its version, its family and, of tuples, its sketch type
 abbrev pub longs_at : List ℕ → ℕ
@@ -66,7 +66,7 @@ theta_head bytes =
     if nat_lt (length bytes) 8 then Err Short
     else if not (family_at bytes == 3) then Err (Family (family_at bytes))
     else if not (nat_le 1 (version_at bytes) && nat_le (version_at bytes) 3) then Err (Version (version_at bytes))
-    else if not (has_longs bytes) then Err Damaged
+    else if not (has_longs bytes) then Err Malformed
     else if version_at bytes == 3 then flagged_head 8 bytes (longs_at bytes)
     else if version_at bytes == 2 then version_2_head bytes
     else unflagged_head bytes 3 None
@@ -84,7 +84,7 @@ tuple_head size bytes =
     if nat_lt (length bytes) 8 then Err Short
     else if not (family_at bytes == 9) then Err (Family (family_at bytes))
     else if not (is_tuple_version (version_at bytes)) then Err (Version (version_at bytes))
-    else if not (has_longs bytes && is_sketch_type (type_at bytes)) then Err Damaged
+    else if not (has_longs bytes && is_sketch_type (type_at bytes)) then Err Malformed
     else flagged_head size bytes (longs_at bytes)
 
 -- whether an image that asks for a seed hash may be read under the reader's, h
@@ -103,7 +103,7 @@ layout_of h present (Err flaw) = Err flaw
 layout_of h present (Ok head) =
     if nat_lt present head.length then Err Cut
     else if not (nat_lt 0 h && is_of_seed h head.seed_hash) then Err Seed
-    else if not (has_theta head.layout) then Err Damaged
+    else if not (has_theta head.layout) then Err Theta
     else Ok head.layout
 
 -- the bytes have the whole preamble, and its theta is from 1 to MAX_THETA
@@ -123,8 +123,10 @@ named big_endian Short = Short
 named big_endian (Family family) = Family family
 named big_endian (Version version) = Version version
 named big_endian BigEndian = BigEndian
+named big_endian Malformed = if big_endian then BigEndian else Malformed
 named big_endian Cut = if big_endian then BigEndian else Cut
 named big_endian Seed = if big_endian then BigEndian else Seed
+named big_endian Theta = if big_endian then BigEndian else Theta
 named big_endian Damaged = if big_endian then BigEndian else Damaged
 named big_endian Longer = if big_endian then BigEndian else Longer
 

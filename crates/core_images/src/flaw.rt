@@ -5,7 +5,7 @@ ghost use Rattle.core_images.specs.Head.{named};
 use sketch_base::{Error, ErrorKind};
 
 /// Why bytes don't begin with an image that a reader of one family and seed reads: the first reason that applies, in
-/// this order. `Damaged` comes twice in it.
+/// this order.
 #[derive(Clone, Copy, Debug, PartialEq, Eq)]
 pub enum Flaw {
     /// There are fewer than eight bytes.
@@ -17,13 +17,17 @@ pub enum Flaw {
     /// The image is flagged as one of numbers with the highest byte first. Readers ignore this flag: it is the flaw of
     /// bytes only if they have one of those below.
     BigEndian,
+    /// The preamble hasn't 1 to 3 longs, or the image is of a sketch type that isn't read.
+    Malformed,
     /// The image is longer than the bytes, or they end within its preamble.
     Cut,
     /// The image has another seed hash, and isn't that of an empty sketch; or the reader's seed hash is 0, under which
     /// no image is read.
     Seed,
-    /// Before `Cut`: not 1 to 3 preamble longs, or a sketch type that isn't read. After `Seed`: a theta out of range,
-    /// or hashes that repeat, don't ascend or are out of range, or bytes after a hash that spell no summary.
+    /// Theta is 0 or greater than `MAX_THETA`.
+    Theta,
+    /// Hashes repeat, don't ascend though they are flagged so, are 0 or aren't below theta, or the bytes after a hash
+    /// spell no summary.
     Damaged,
     /// Bytes follow the image, for a caller that reads one image alone. Readers of this crate ignore them.
     Longer,

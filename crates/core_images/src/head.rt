@@ -135,7 +135,7 @@ fn version_2_head(bytes: &[u8]) -> Result<Head, Flaw>
 }
 
 /// The head of the image of a theta sketch that the bytes begin with, or the first flaw: `Short`, `Family`, `Version`,
-/// `Damaged` or `Cut`. If it is returned, the bytes have the whole preamble; the entries may be cut short.
+/// `Malformed` or `Cut`. If it is returned, the bytes have the whole preamble; the entries may be cut short.
 #[tactic(auto, unfolding(crate::specs::Head::theta_head))]
 pub fn theta_head(bytes: &[u8]) -> Result<Head, Flaw>
     ensures { result ≡ theta_head bytes.now }
@@ -150,7 +150,7 @@ pub fn theta_head(bytes: &[u8]) -> Result<Head, Flaw>
         return Err(Flaw::Version(bytes[1]));
     }
     if !has_longs(bytes) {
-        return Err(Flaw::Damaged);
+        return Err(Flaw::Malformed);
     }
     match bytes[1] {
         3 => flagged_head(8, bytes, bytes[0]),
@@ -189,7 +189,7 @@ pub fn tuple_head(size: u16, bytes: &[u8]) -> Result<Head, Flaw>
         return Err(Flaw::Version(bytes[1]));
     }
     if !(has_longs(bytes) && is_sketch_type(bytes[3])) {
-        return Err(Flaw::Damaged);
+        return Err(Flaw::Malformed);
     }
     flagged_head(size, bytes, bytes[0])
 }
@@ -222,8 +222,7 @@ fn has_theta(layout: ImageLayout) -> bool
 }
 
 /// The layout of an image, by its head and the number of bytes that are present, for a reader of this seed hash; or
-/// the first flaw: that of the head, then `Cut`, `Seed` (also if the reader's is 0), and `Damaged` for a theta out of
-/// range.
+/// the first flaw: that of the head, then `Cut`, `Seed` (also if the reader's is 0), and `Theta`.
 #[tactic(auto, unfolding(crate::specs::Head::layout_of))]
 pub fn layout_of(
     seed_hash: u16,
@@ -240,7 +239,7 @@ pub fn layout_of(
             } else if !(0 < seed_hash && is_of_seed(seed_hash, it.seed_hash)) {
                 Err(Flaw::Seed)
             } else if !has_theta(it.layout) {
-                Err(Flaw::Damaged)
+                Err(Flaw::Theta)
             } else {
                 Ok(it.layout)
             }

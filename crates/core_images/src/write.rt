@@ -1,6 +1,7 @@
 //! Writing images.
 ghost use Rattle.std.specs.Prelude.{◌≡◌, ◌<◌, ◌^◌, ◌++◌, None, true, IfOk, OnOk};
 ghost use Rattle.std.specs.List.{AllByRecursion};
+ghost use Rattle.core_compact.specs.CompactState.{IsCompact};
 ghost use Rattle.core_images.specs.Write.{written_image, counted_bytes};
 ghost use Rattle.core_laws.specs.Refusal.{Refuses};
 
@@ -32,6 +33,8 @@ pub fn write_image<E: ImageEntry<A>, A: Allocator + Drop, B: Allocator>(
     ensures ok { IfOk result (λ v. v.items ≡ written_image E.text family.id kind state.now) }
     ensures values { OnOk result (AllByRecursion E.is_value state.now.entries) }
     ensures refused { Refuses result None true }
+    ensures sound { IsCompact E.key state.now }
+    ensures short { state.now.seed_hash < 2 ^ 16 }
 {
     let capacity = 24 + 8 * state.retained_entries().len();
     write_image_with_capacity(alloc, state, family, kind, capacity)
@@ -49,9 +52,12 @@ pub fn write_image_with_capacity<E: ImageEntry<A>, A: Allocator + Drop, B: Alloc
     ensures ok { IfOk result (λ v. v.items ≡ written_image E.text family.id kind state.now) }
     ensures values { OnOk result (AllByRecursion E.is_value state.now.entries) }
     ensures refused { Refuses result None true }
+    ensures sound { IsCompact E.key state.now }
+    ensures short { state.now.seed_hash < 2 ^ 16 }
 {
     let entries = state.retained_entries();
     let count = entries.len();
+    let seed_hash = state.seed_hash();
     let mut bytes = SketchBytes::with_capacity(alloc, capacity)?;
     if state.is_empty() {
         bytes.write(&[1, 3, family.id, kind, 0, 0x1e, 0, 0])?;
@@ -67,7 +73,7 @@ pub fn write_image_with_capacity<E: ImageEntry<A>, A: Allocator + Drop, B: Alloc
         2
     };
     bytes.write(&[longs, 3, family.id, kind, 0, flags])?;
-    bytes.write_u16_le(state.seed_hash())?;
+    bytes.write_u16_le(seed_hash)?;
     if longs != 1 {
         write_count(count, &mut bytes)?;
     }

@@ -23,6 +23,12 @@ first_hash h other = h
 abbrev pub KeepsKey : {X : Type 0} → (X → ℕ) → (X → X → X) → Type 0
 KeepsKey {X} key merges = (x y : X) → key x ≡ key y → key (merges x y) ≡ key y
 
+-- how entries of one key are merged: what an entry's key is, and what two entries become
+pub record Merging (X : Type 0) : Type 0 where
+  pub key : X → ℕ
+  pub merges : X → X → X
+  pub keeps : KeepsKey key merges
+
 -- clones equal their originals
 abbrev pub ClonesEqual : {X : Type 0} → (X → X → Type 0) → Type 0
 ClonesEqual {X} is_clone = (x y : X) → is_clone x y → y ≡ x

@@ -9,7 +9,7 @@ ghost use Rattle.core_laws.specs.Commuting.{Commutes, Associates, IsIdempotent};
 ghost use Rattle.core_laws.specs.KeysOfValues.{keys_of, IsKeyOf, IsBelowTheta};
 ghost use Rattle.core_laws.specs.Folds.{folded, folded_of, has_mark, Fold, Value, fold_key, fold_merges, unmarked};
 ghost use Rattle.core_laws.specs.Folds.{unmarked_value, never};
-ghost use Rattle.core_laws.specs.Entries.{hash_key, hash_step, first_hash, KeepsKey};
+ghost use Rattle.core_laws.specs.Entries.{hash_key, hash_step, first_hash, Merging};
 ghost use Rattle.core_laws.specs.Operators.{meet_next, unite, meet, minus, lacking, least, all_have, joined_all};
 ghost use Rattle.core_laws.specs.Operators.{nonempties, joined, common, BecomesDisjoint};
 ghost use Rattle.core_laws.specs.Values.{keys, IsAscendingValue, cut_value, Sketch, Empty, NonEmpty};
@@ -120,124 +120,108 @@ pub fn trimmed_leaf_is_kmin<V>()
 
 /// The union of some values and a last one is the union of their union and the last one.
 pub fn union_of_union<X>()
-    ensures { (key : X → ℕ) (merges : X → X → X)
-        → KeepsKey key merges
-        → (k start : ℕ) (values : List (Sketch X)) (last : Sketch X)
-        → unite key merges k start (values ++ last ∷ [])
-        ≡ unite key merges k start (unite key merges k start values ∷ last ∷ []) }
+    ensures { (m : Merging X) (k start : ℕ) (values : List (Sketch X)) (last : Sketch X)
+        → unite m.key m.merges k start (values ++ last ∷ [])
+        ≡ unite m.key m.merges k start (unite m.key m.merges k start values ∷ last ∷ []) }
 {}
 
 /// A union cut to fewer nominal entries is the union at that number of nominal entries from the start; an Empty one
 /// stays Empty.
 pub fn cut_of_union<X>()
-    ensures { (key : X → ℕ) (merges : X → X → X)
-        → KeepsKey key merges
-        → (less k start : ℕ) (values : List (Sketch X))
+    ensures { (m : Merging X) (less k start : ℕ) (values : List (Sketch X))
         → less ≤ k
-        → cut_value key less (unite key merges k start values) ≡ unite key merges less start values }
+        → cut_value m.key less (unite m.key m.merges k start values) ≡ unite m.key m.merges less start values }
 {}
 
 /// The union of samples is a sample of the join of their whole maps.
 pub fn union_of_samples<X>()
-    ensures { (key : X → ℕ) (merges : X → X → X)
-        → KeepsKey key merges
-        → (k start : ℕ) (values : List (Sketch X)) (wholes : List (List X))
-        → AreSamples key values wholes
-        → IsSample key (unite key merges k start values) (joined_all key merges [] wholes) }
+    ensures { (m : Merging X) (k start : ℕ) (values : List (Sketch X)) (wholes : List (List X))
+        → AreSamples m.key values wholes
+        → IsSample m.key (unite m.key m.merges k start values) (joined_all m.key m.merges [] wholes) }
 {}
 
 /// A union's theta is lawful for k if the thetas of its parts are, and if its own nominal entries are at least k and
 /// its start is at least theirs.
 pub fn union_stays_lawful<X>()
-    ensures { (key : X → ℕ) (merges : X → X → X)
-        → KeepsKey key merges
-        → (k own start from : ℕ) (values : List (Sketch X)) (wholes : List (List X))
+    ensures { (m : Merging X) (k own start from : ℕ) (values : List (Sketch X)) (wholes : List (List X))
         → k ≤ own
         → start ≤ from
-        → AreSamples key values wholes
-        → AreLawful key k start values wholes
-        → IsLawfulValue key k start (unite key merges own from values) (joined_all key merges [] wholes) }
+        → AreSamples m.key values wholes
+        → AreLawful m.key k start values wholes
+        → IsLawfulValue m.key k start (unite m.key m.merges own from values) (joined_all m.key m.merges [] wholes) }
 {}
 
 /// If every part's theta is lawful for one start, and the union doesn't start below it, a union with a part that
 /// isn't Empty is the cut of the whole map at that start, whatever the order of its parts.
 pub fn union_is_least<X>()
-    ensures { (key : X → ℕ) (merges : X → X → X)
-        → KeepsKey key merges
-        → (k start from : ℕ) (values : List (Sketch X)) (wholes : List (List X))
+    ensures { (m : Merging X) (k start from : ℕ) (values : List (Sketch X)) (wholes : List (List X))
         → start ≤ from
-        → AreSamples key values wholes
-        → AreLawful key k start values wholes
+        → AreSamples m.key values wholes
+        → AreLawful m.key k start values wholes
         → nonempties values ≢ []
-        → unite key merges k from values ≡ NonEmpty (cut key k (joined_all key merges [] wholes) start) }
+        → unite m.key m.merges k from values ≡ NonEmpty (cut m.key k (joined_all m.key m.merges [] wholes) start) }
 {}
 
 /// The keys, theta and emptiness of a union don't depend on the order of its inputs.
 pub fn union_commutes<X>()
-    ensures { (key : X → ℕ) (merges : X → X → X)
-        → KeepsKey key merges
-        → (k start : ℕ) (a b : Sketch X)
-        → IsAscendingValue key a
-        → IsAscendingValue key b
-        → keys key (unite key merges k start (a ∷ b ∷ [])) ≡ keys key (unite key merges k start (b ∷ a ∷ [])) }
+    ensures { (m : Merging X) (k start : ℕ) (a b : Sketch X)
+        → IsAscendingValue m.key a
+        → IsAscendingValue m.key b
+        → keys m.key (unite m.key m.merges k start (a ∷ b ∷ []))
+        ≡ keys m.key (unite m.key m.merges k start (b ∷ a ∷ [])) }
 {}
 
 /// The keys, theta and emptiness of a union don't depend on the grouping of its inputs.
 pub fn union_associates<X>()
-    ensures { (key : X → ℕ) (merges : X → X → X)
-        → KeepsKey key merges
-        → (k start : ℕ) (a b c : Sketch X)
-        → IsAscendingValue key a
-        → IsAscendingValue key b
-        → IsAscendingValue key c
-        → keys key (unite key merges k start (unite key merges k start (a ∷ b ∷ []) ∷ c ∷ []))
-        ≡ keys key (unite key merges k start (a ∷ unite key merges k start (b ∷ c ∷ []) ∷ [])) }
+    ensures { (m : Merging X) (k start : ℕ) (a b c : Sketch X)
+        → IsAscendingValue m.key a
+        → IsAscendingValue m.key b
+        → IsAscendingValue m.key c
+        → keys m.key (unite m.key m.merges k start (unite m.key m.merges k start (a ∷ b ∷ []) ∷ c ∷ []))
+        ≡ keys m.key (unite m.key m.merges k start (a ∷ unite m.key m.merges k start (b ∷ c ∷ []) ∷ [])) }
 {}
 
 /// The union of a union's result with itself has the same keys, theta and emptiness.
 pub fn union_again<X>()
-    ensures { (key : X → ℕ) (merges : X → X → X)
-        → KeepsKey key merges
-        → (k start : ℕ) (values : List (Sketch X))
-        → IsAscendingValue key (unite key merges k start values)
-        → keys key
-        (unite key merges k start (unite key merges k start values ∷ unite key merges k start values ∷ []))
-        ≡ keys key (unite key merges k start values) }
+    ensures { (m : Merging X) (k start : ℕ) (values : List (Sketch X))
+        → IsAscendingValue m.key (unite m.key m.merges k start values)
+        → keys m.key
+        (unite m.key m.merges k start
+        (unite m.key m.merges k start values ∷ unite m.key m.merges k start values ∷ []))
+        ≡ keys m.key (unite m.key m.merges k start values) }
 {}
 
 /// If merges of one key don't depend on their order, neither does a union of two values, including its summaries.
 pub fn union_commutes_as_merges<X>()
-    ensures { (key : X → ℕ) (merges : X → X → X)
-        → KeepsKey key merges
-        → Commutes key merges
+    ensures { (m : Merging X)
+        → Commutes m.key m.merges
         → (k start : ℕ) (a b : Sketch X)
-        → IsAscendingValue key a
-        → IsAscendingValue key b
-        → unite key merges k start (a ∷ b ∷ []) ≡ unite key merges k start (b ∷ a ∷ []) }
+        → IsAscendingValue m.key a
+        → IsAscendingValue m.key b
+        → unite m.key m.merges k start (a ∷ b ∷ []) ≡ unite m.key m.merges k start (b ∷ a ∷ []) }
 {}
 
 /// If merges of one key don't depend on their grouping, neither does a union of three values, including its
 /// summaries.
 pub fn union_associates_as_merges<X>()
-    ensures { (key : X → ℕ) (merges : X → X → X)
-        → KeepsKey key merges
-        → Associates key merges
+    ensures { (m : Merging X)
+        → Associates m.key m.merges
         → (k start : ℕ) (a b c : Sketch X)
-        → IsAscendingValue key b
-        → IsAscendingValue key c
-        → unite key merges k start (unite key merges k start (a ∷ b ∷ []) ∷ c ∷ [])
-        ≡ unite key merges k start (a ∷ unite key merges k start (b ∷ c ∷ []) ∷ []) }
+        → IsAscendingValue m.key b
+        → IsAscendingValue m.key c
+        → unite m.key m.merges k start (unite m.key m.merges k start (a ∷ b ∷ []) ∷ c ∷ [])
+        ≡ unite m.key m.merges k start (a ∷ unite m.key m.merges k start (b ∷ c ∷ []) ∷ []) }
 {}
 
 /// If a merge of an entry with itself leaves it unchanged, the union of a union's result with itself is that result,
 /// including its summaries.
 pub fn union_again_as_merges<X>()
-    ensures { (key : X → ℕ) (merges : X → X → X)
-        → KeepsKey key merges
-        → IsIdempotent merges
+    ensures { (m : Merging X)
+        → IsIdempotent m.merges
         → (k start : ℕ) (values : List (Sketch X))
-        → unite key merges k start (unite key merges k start values ∷ unite key merges k start values ∷ [])
-        ≡ unite key merges k start values }
+        → unite m.key m.merges k start
+        (unite m.key m.merges k start values ∷ unite m.key m.merges k start values ∷ [])
+        ≡ unite m.key m.merges k start values }
 {}
 
 /// Merges of folds commute if refusals don't depend on the order and the merges that aren't refused commute; they
@@ -248,14 +232,13 @@ pub fn folds_merge_alike<X>()
         → ((x y : X) → key x ≡ key y → refuses x y ≡ refuses y x)
         → ((x y : X) → key x ≡ key y → refuses x y ≡ false → merges x y ≡ merges y x)
         → Commutes (fold_key key) (fold_merges key merges refuses) }
-    ensures associate { (key : X → ℕ) (merges : X → X → X) (refuses : X → X → Bool)
-        → KeepsKey key merges
+    ensures associate { (m : Merging X) (refuses : X → X → Bool)
         → ((x y z : X)
-        → key x ≡ key y
-        → key y ≡ key z
-        → fold_merges key merges refuses (fold_merges key merges refuses (Value x) (Value y)) (Value z)
-        ≡ fold_merges key merges refuses (Value x) (fold_merges key merges refuses (Value y) (Value z)))
-        → Associates (fold_key key) (fold_merges key merges refuses) }
+        → m.key x ≡ m.key y
+        → m.key y ≡ m.key z
+        → fold_merges m.key m.merges refuses (fold_merges m.key m.merges refuses (Value x) (Value y)) (Value z)
+        ≡ fold_merges m.key m.merges refuses (Value x) (fold_merges m.key m.merges refuses (Value y) (Value z)))
+        → Associates (fold_key m.key) (fold_merges m.key m.merges refuses) }
     ensures idempotent { (key : X → ℕ) (merges : X → X → X) (refuses : X → X → Bool)
         → ((x : X) → refuses x x ≡ false)
         → IsIdempotent merges
@@ -287,21 +270,17 @@ pub fn refused_step_marks<X>()
 
 /// If a merge is refused, the join of the two maps has a mark, and so has their common part.
 pub fn refused_merge_marks<X>()
-    ensures joined { (key : X → ℕ) (merges : X → X → X) (refuses : X → X → Bool)
-        → KeepsKey key merges
-        → (whole arriving : List (Fold X)) (q : ℕ) (x y : X)
-        → entry_at (fold_key key) whole q ≡ Some (Value x)
-        → entry_at (fold_key key) arriving q ≡ Some (Value y)
+    ensures joined { (m : Merging X) (refuses : X → X → Bool) (whole arriving : List (Fold X)) (q : ℕ) (x y : X)
+        → entry_at (fold_key m.key) whole q ≡ Some (Value x)
+        → entry_at (fold_key m.key) arriving q ≡ Some (Value y)
         → refuses x y ≡ true
-        → IsApart (fold_key key) arriving
-        → has_mark (joined (fold_key key) (fold_merges key merges refuses) whole arriving) ≡ true }
-    ensures met { (key : X → ℕ) (merges : X → X → X) (refuses : X → X → Bool)
-        → KeepsKey key merges
-        → (whole arriving : List (Fold X)) (q : ℕ) (x y : X)
-        → entry_at (fold_key key) whole q ≡ Some (Value x)
-        → entry_at (fold_key key) arriving q ≡ Some (Value y)
+        → IsApart (fold_key m.key) arriving
+        → has_mark (joined (fold_key m.key) (fold_merges m.key m.merges refuses) whole arriving) ≡ true }
+    ensures met { (m : Merging X) (refuses : X → X → Bool) (whole arriving : List (Fold X)) (q : ℕ) (x y : X)
+        → entry_at (fold_key m.key) whole q ≡ Some (Value x)
+        → entry_at (fold_key m.key) arriving q ≡ Some (Value y)
         → refuses x y ≡ true
-        → has_mark (common (fold_key key) (fold_merges key merges refuses) whole arriving) ≡ true }
+        → has_mark (common (fold_key m.key) (fold_merges m.key m.merges refuses) whole arriving) ≡ true }
 {}
 
 /// If its policy allows a merge, it has the same effect as the merge of folds.
@@ -315,18 +294,16 @@ pub fn allowed_merge<X>()
 
 /// The value after an update is the union of the value before and the input, whatever map and theta the union keeps.
 pub fn update_unites<X>()
-    ensures { (key : X → ℕ) (merges : X → X → X)
-        → KeepsKey key merges
-        → (k start m : ℕ) (old new : Retained X) (xs : List X) (theta : ℕ)
-        → m ≡ min old.theta theta
+    ensures { (m : Merging X) (k start low : ℕ) (old new : Retained X) (xs : List X) (theta : ℕ)
+        → low ≡ min old.theta theta
         → old.theta ≤ start
-        → IsAscending key old.entries
-        → IsApart key xs
-        → IsWithin key k m new (joined key merges (below key old.entries m) (below key xs m))
-        → NonEmpty (cut key k new.entries new.theta)
-        ≡ unite key merges k start
-        (NonEmpty (cut key k old.entries old.theta)
-        ∷ NonEmpty (record { entries = map_of key xs; theta = theta })
+        → IsAscending m.key old.entries
+        → IsApart m.key xs
+        → IsWithin m.key k low new (joined m.key m.merges (below m.key old.entries low) (below m.key xs low))
+        → NonEmpty (cut m.key k new.entries new.theta)
+        ≡ unite m.key m.merges k start
+        (NonEmpty (cut m.key k old.entries old.theta)
+        ∷ NonEmpty (record { entries = map_of m.key xs; theta = theta })
         ∷ []) }
 {}
 
@@ -365,25 +342,21 @@ pub fn meet_in_turn<X>()
 
 /// The meet of samples is a sample of the common part of their whole maps.
 pub fn meet_of_samples<X>()
-    ensures { (key : X → ℕ) (merges : X → X → X)
-        → KeepsKey key merges
-        → (first : Sketch X) (values : List (Sketch X)) (whole : List X) (wholes : List (List X))
-        → IsSample key first whole
-        → AreSamples key values wholes
-        → IsSample key (meet key merges (first ∷ values)) (common_all key merges whole wholes) }
+    ensures { (m : Merging X) (first : Sketch X) (values : List (Sketch X)) (whole : List X) (wholes : List (List X))
+        → IsSample m.key first whole
+        → AreSamples m.key values wholes
+        → IsSample m.key (meet m.key m.merges (first ∷ values)) (common_all m.key m.merges whole wholes) }
 {}
 
 /// A meet that isn't Empty has the least theta, and below it the keys that all values have, with their entries
 /// combined in the order of the values.
 pub fn meet_shows<X>()
-    ensures { (key : X → ℕ) (merges : X → X → X)
-        → KeepsKey key merges
-        → (u : Retained X) (vs : List (Retained X)) (r : Retained X)
-        → meet key merges (NonEmpty u ∷ map NonEmpty vs) ≡ NonEmpty r
+    ensures { (m : Merging X) (u : Retained X) (vs : List (Retained X)) (r : Retained X)
+        → meet m.key m.merges (NonEmpty u ∷ map NonEmpty vs) ≡ NonEmpty r
         → (r.theta ≡ least u.theta (map (λ v. v.theta) vs))
         × ((q : ℕ)
         → q < r.theta
-        → entry_at key r.entries q ≡ all_have key merges (entry_at key u.entries q) vs q) }
+        → entry_at m.key r.entries q ≡ all_have m.key m.merges (entry_at m.key u.entries q) vs q) }
 {}
 
 /// A meet is Empty if one of the values is.
@@ -395,42 +368,32 @@ pub fn meet_with_empty<X>()
 /// A meet of values that aren't Empty is Empty exactly if, for some j, the first j values all have the greatest
 /// theta, the jth has keys, those before it have a key in common, and all j have none in common.
 pub fn meet_is_empty<X>()
-    ensures only_if { (key : X → ℕ) (merges : X → X → X)
-        → KeepsKey key merges
-        → (u : Retained X) (vs : List (Retained X))
-        → AllByRecursion (IsRetained key) (u ∷ vs)
-        → meet key merges (NonEmpty u ∷ map NonEmpty vs) ≡ Empty
-        → BecomesDisjoint key (u ∷ vs) }
-    ensures if_so { (key : X → ℕ) (merges : X → X → X)
-        → KeepsKey key merges
-        → (u : Retained X) (vs : List (Retained X))
-        → AllByRecursion (IsRetained key) (u ∷ vs)
-        → BecomesDisjoint key (u ∷ vs)
-        → meet key merges (NonEmpty u ∷ map NonEmpty vs) ≡ Empty }
+    ensures only_if { (m : Merging X) (u : Retained X) (vs : List (Retained X))
+        → AllByRecursion (IsRetained m.key) (u ∷ vs)
+        → meet m.key m.merges (NonEmpty u ∷ map NonEmpty vs) ≡ Empty
+        → BecomesDisjoint m.key (u ∷ vs) }
+    ensures if_so { (m : Merging X) (u : Retained X) (vs : List (Retained X))
+        → AllByRecursion (IsRetained m.key) (u ∷ vs)
+        → BecomesDisjoint m.key (u ∷ vs)
+        → meet m.key m.merges (NonEmpty u ∷ map NonEmpty vs) ≡ Empty }
 {}
 
 /// A hash is a key of a meet of some values exactly if it is a key of each; so the keys of a meet don't depend on the
 /// order of the values. Its theta and emptiness may.
 pub fn meet_keys<X>()
-    ensures only_if { (key : X → ℕ) (merges : X → X → X)
-        → KeepsKey key merges
-        → (values : List (Sketch X)) (q : ℕ)
-        → IsKeyOf key q (meet key merges values)
-        → (values ≢ []) × AllByRecursion (IsKeyOf key q) values }
-    ensures if_so { (key : X → ℕ) (merges : X → X → X)
-        → KeepsKey key merges
-        → (values : List (Sketch X)) (q : ℕ)
-        → AllByRecursion (IsBelowTheta key) values
+    ensures only_if { (m : Merging X) (values : List (Sketch X)) (q : ℕ)
+        → IsKeyOf m.key q (meet m.key m.merges values)
+        → (values ≢ []) × AllByRecursion (IsKeyOf m.key q) values }
+    ensures if_so { (m : Merging X) (values : List (Sketch X)) (q : ℕ)
+        → AllByRecursion (IsBelowTheta m.key) values
         → values ≢ []
-        → AllByRecursion (IsKeyOf key q) values
-        → IsKeyOf key q (meet key merges values) }
-    ensures any_order { (key : X → ℕ) (merges : X → X → X)
-        → KeepsKey key merges
-        → (values others : List (Sketch X))
-        → AllByRecursion (IsAscendingValue key) values
-        → AllByRecursion (IsBelowTheta key) values
+        → AllByRecursion (IsKeyOf m.key q) values
+        → IsKeyOf m.key q (meet m.key m.merges values) }
+    ensures any_order { (m : Merging X) (values others : List (Sketch X))
+        → AllByRecursion (IsAscendingValue m.key) values
+        → AllByRecursion (IsBelowTheta m.key) values
         → IsPermutation values others
-        → keys_of key (meet key merges values) ≡ keys_of key (meet key merges others) }
+        → keys_of m.key (meet m.key m.merges values) ≡ keys_of m.key (meet m.key m.merges others) }
 {}
 
 /// The difference of samples is a sample of the difference of their whole maps.

@@ -6,8 +6,8 @@ use Rattle.core_laws.specs.declared.TheConstants.{MIN_LG_K}
 use Rattle.core_laws.specs.Maps.{IsAscending, below}
 use Rattle.core_laws.specs.Cuts.{Retained, retained, cut, IsRetained}
 use Rattle.core_laws.specs.Values.{Empty, NonEmpty, cut_value}
-use Rattle.core_table.specs.HashTable.{MapTable}
-use Rattle.core_operators.specs.Union.{Union, union_value, lowered, IsUnion, IsUnionBelow}
+use Rattle.core_table.specs.HashTable.{MapTable, IsTable}
+use Rattle.core_operators.specs.Union.{Union, union_value, lowered, IsUnion, IsUnionOver}
 use Rattle.core_laws.proofs.maps.Ascending.{ascending-nil}
 use Rattle.core_laws.proofs.cuts.Cuts.{cut_is_below, cut_few}
 use Rattle.core_laws.proofs.cuts.WithinWholeMaps.{below-below, cut_below, cut_of_cut}
@@ -46,8 +46,8 @@ module _ {X : Type 0} (key : X → ℕ) where
         let twice : cut key (2 ^ lg_k) fewer.entries fewer.theta ≡ fewer = cut_of_cut key (2 ^ lg_k) (2 ^ lg_k) u.content.entries u.content.theta (omega arith) up in
         elim u.empty as (λ b. cond b Empty (NonEmpty (cut key (2 ^ lg_k) fewer.entries fewer.theta)) ≡ cut_value key (2 ^ lg_k) (cond b Empty (NonEmpty (cut key (2 ^ u.lg_k) u.content.entries u.content.theta)))) [ true ↦ refl | false ↦ ap NonEmpty (twice ∙ sym once) ]
 
-    pub sound_smaller : MIN_LG_K ≤ lg_k → lg_k ≤ u.lg_k → IsUnion u → IsRetained key u.content → IsUnionBelow fewer.theta smaller
-    sound_smaller low le sound content =
+    pub sound_smaller : (t : MapTable X) → IsTable key t → t.kept.theta ≡ fewer.theta → MIN_LG_K ≤ lg_k → lg_k ≤ u.lg_k → IsUnion u → IsRetained key u.content → IsUnionOver key t smaller
+    sound_smaller t table same low le sound content =
         let theta = cut_theta key (2 ^ lg_k) u.content.entries u.content.theta content in
         record {
           union = record {
@@ -57,7 +57,8 @@ module _ {X : Type 0} (key : X → ℕ) where
             none_held = λ ok empty. ap (λ v. cut key (2 ^ lg_k) v.entries v.theta) (sound.none_held ok empty) ∙ cut_few key (2 ^ lg_k) [] u.start (ascending-nil key) (omega arith);
           };
           theta_low = theta.low;
-          theta_within = omega arith;
+          theta_within = omega (arith, same);
+          table_sound = table;
         }
 
     pub lowered_held : (H : Retained X → Type 0) → H u.content → H fewer → H (lowered key lg_k u).content

@@ -20,7 +20,7 @@ use Rattle.core_laws.specs.Shown.{Shown, IsShown, shown_value}
 use Rattle.core_policies.specs.Summaries.{combined, combine_refused}
 use Rattle.core_slots.specs.Entry.{tuple_key}
 use Rattle.core_slots.specs.declared.entry.TupleEntry.{TupleEntry}
-use Rattle.core_table.specs.HashTable.{MapTable}
+use Rattle.core_table.specs.HashTable.{MapTable, IsTable}
 
 -- a union: whether it is empty, whether it has failed, its retained entries and theta, its settings and its policy
 pub record Union (X P : Type 0) : Type 0 where
@@ -57,11 +57,12 @@ pub record IsUnion {X P : Type 0} (u : Union X P) : Type 0 where
   pub theta_high : u.failed ≡ false → u.content.theta ≤ u.start
   pub none_held : u.failed ≡ false → u.empty ≡ true → u.content ≡ none_below u.start
 
--- a union whose theta is at least 1 and at most its table's
-pub record IsUnionBelow {X P : Type 0} (table_theta : ℕ) (u : Union X P) : Type 0 where
+-- a union over a table that meets the laws of tables; its theta is at least 1 and at most its table's
+pub record IsUnionOver {X P : Type 0} (key : X → ℕ) (table : MapTable X) (u : Union X P) : Type 0 where
   pub union : IsUnion u
   pub theta_low : 0 < u.content.theta
-  pub theta_within : u.content.theta ≤ table_theta
+  pub theta_within : u.content.theta ≤ table.kept.theta
+  pub table_sound : IsTable key table
 
 -- the error of an update before anything is merged: a failed union refuses every input; an empty input is not checked;
 -- any other of another seed is refused

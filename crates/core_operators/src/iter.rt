@@ -2,6 +2,7 @@
 ghost use Rattle.std.specs.Prelude.{◌≡◌, ◌↔◌, Some, true, false, length, map, IsSome, IfSome};
 ghost use Rattle.core_laws.specs.Maps.{IsListing};
 ghost use Rattle.core_table.specs.Gathering.{from_below};
+ghost use Rattle.core_table.specs.HashTable.{IsTable};
 ghost use Rattle.std.specs.Iterator.{YieldsFirst, YieldsFirstRef, UpTo, item_count};
 ghost use Rattle.std.specs.Iterator.SizeHint.{IsWithinCount};
 
@@ -48,6 +49,7 @@ impl<'a, E: SlotEntry> EntryIter<'a, E> {
     pub fn of_table<A: Allocator>(table: &'a SketchHashTable<E, A>) -> Self
         ensures listed { result ≡ record { rest = table.entry.now.sequence; counted = false } }
         ensures each_once { IsListing E.key table.entry.now.map.kept.entries table.entry.now.sequence }
+        ensures sound { IsTable E.key table.entry.now.map }
     {
         EntryIter {
             source: Source::Table(table.iter_entries()),

@@ -45,8 +45,6 @@ pub(crate) fn inputs_of<S: EntrySketch>(sketches: &[S], seed_hash: u16) -> Resul
         ordered: true,
     };
     for sketch in sketches {
-        // Called for its clause: the entries have the hashes that the sketch shows.
-        let _ = sketch.entries();
         match (*sketch).metadata() {
             ThetaFamilySketchMetadata::Empty { .. } => {}
             ThetaFamilySketchMetadata::NonEmpty {
@@ -146,10 +144,7 @@ where
 {
     for sketch in sketches {
         match (*sketch).metadata() {
-            ThetaFamilySketchMetadata::Empty { .. } => {
-                // Called for its clause: the entries have the hashes that the sketch shows, here none.
-                let _ = sketch.entries();
-            }
+            ThetaFamilySketchMetadata::Empty { .. } => {}
             ThetaFamilySketchMetadata::NonEmpty { ordered, .. } => {
                 merge_entries(table, *sketch, policy, ordered, from, to)?;
             }

@@ -5,6 +5,7 @@ ghost use Rattle.core_compact.specs.CompactState.{IsAnswer};
 ghost use Rattle.core_laws.specs.Refusal.{Refuses};
 ghost use Rattle.core_laws.specs.Cuts.{IsRetained};
 ghost use Rattle.core_laws.specs.Settings.{settings_refusal};
+ghost use Rattle.core_laws.specs.Shown.{IsShown};
 ghost use Rattle.core_operators.specs.Union.{Union, empty_union, union_value, update_refusal, lower_refusal};
 ghost use Rattle.core_operators.specs.Union.{lower_allocates, lowered, failure, IsUnion, JoinsShown, UnitesShown};
 ghost use Rattle.core_operators.specs.Union.{IsUpdateError, all_empty, update_all_refusal, JoinsAll, UnitesAll};
@@ -44,7 +45,7 @@ pub struct UnionState<E: SlotEntry, P, A: Allocator = Global> {
 
 impl<E: SlotEntry, P, A: Allocator> Model for UnionState<E, P, A> {
     ghost use Rattle.core_laws.specs.Cuts.{retained};
-    ghost use Rattle.core_operators.specs.Union.{Union, IsUnionBelow};
+    ghost use Rattle.core_operators.specs.Union.{Union, IsUnionOver};
 
     ghost Value = { Union E P };
 
@@ -61,7 +62,7 @@ impl<E: SlotEntry, P, A: Allocator> Model for UnionState<E, P, A> {
         } };
 
     ghost invariant = { λ u.
-        IsUnionBelow u.table.map.kept.theta
+        IsUnionOver E.key u.table.map
         (record {
           empty = u.empty;
           failed = u.failed;
@@ -131,14 +132,13 @@ impl<E: SlotEntry + Clone, P: UnionMergePolicy<E> + Drop, A: Allocator + Clone> 
             UnitesShown E.key (P.merges self.old.policy) (P.refuses self.old.policy) self.old self.new
             (S.shown sketch) (S.listing sketch)) }
         ensures accepted { OnOk result (update_refusal self.old (S.shown sketch) ≡ None) }
+        ensures shown { OnOk result (IsShown (S.shown sketch)) }
         ensures refused { IfErr result
             (IsUpdateError E.key (P.refuses self.old.policy) self.old self.new (S.shown sketch)
             (S.listing sketch)) }
         ensures sound { IsUnion self.old }
         ensures content { IsRetained E.key self.old.content }
     {
-        // Called for its contract: the table's entries keep the laws of a sketch value.
-        let _ = self.table.retention_theta();
         if self.failed {
             return Err(Error::new(ErrorKind::Failed));
         }
@@ -198,8 +198,6 @@ impl<E: SlotEntry + Clone, P: UnionMergePolicy<E> + Drop, A: Allocator + Clone> 
         ensures sound { IsUnion self.old }
         ensures content { IsRetained E.key self.old.content }
     {
-        // Called for its contract: the table's entries keep the laws of a sketch value.
-        let _ = self.table.retention_theta();
         if self.failed {
             return Err(Error::new(ErrorKind::Failed));
         }
@@ -241,8 +239,6 @@ impl<E: SlotEntry + Clone, P: UnionMergePolicy<E> + Drop, A: Allocator + Clone> 
         ensures sound { IsUnion self.old }
         ensures content { IsRetained E.key self.old.content }
     {
-        // Called for its clause: the table's entries ascend.
-        let _ = self.table.retention_theta();
         if self.failed {
             return Err(Error::new(ErrorKind::Failed));
         }
@@ -279,8 +275,6 @@ impl<E: SlotEntry + Clone, P: UnionMergePolicy<E> + Drop, A: Allocator + Clone> 
             let alloc = self.table.allocator().clone()?;
             return Ok(CompactSketchState::empty(alloc, self.table.seed_hash()));
         }
-        // Called for its contract: the table's entries ascend, in the model.
-        let _ = self.table.retention_theta();
         self.table.to_cut_state(self.theta, ordered)
     }
 }

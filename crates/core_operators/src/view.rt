@@ -73,4 +73,7 @@ pub trait EntrySketch: KeySketch {
         ensures all { result.rest ≡ listing self.now }
         ensures hashes { map Self.Entry.key (listing self.now) ≡ (Self.shown self.now).hashes }
         ensures sound { IsShown (Self.shown self.now) };
+
+    /// The entries have the hashes that the sketch shows.
+    ghost lists: { (s : Self) → map Self.Entry.key (listing s) ≡ (Self.shown s).hashes };
 }

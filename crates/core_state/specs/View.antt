@@ -1,5 +1,5 @@
 -- What views of sketches show, of either family.
-use Rattle.std.specs.Prelude.{ℕ, ◌≡◌, List, true, false}
+use Rattle.std.specs.Prelude.{ℕ, ◌≡◌, List, map, true, false, refl}
 use Rattle.core_compact.specs.CompactState as state
 use Rattle.core_compact.specs.CompactState.{compact_value, shown_of}
 use Rattle.core_operators.specs.Iter.{Remaining}
@@ -30,6 +30,14 @@ lending view = viewed_lending view.sketch
 -- the entries of a view, in the order in which its iterator returns them
 abbrev pub sequence : {X Z S : Type 0} → SketchView X Z S → List X
 sequence view = (lending view).rest
+
+-- the entries of a view have the hashes that it shows
+pub hashes_listed : {X Z S : Type 0} (key : X → ℕ) (view : SketchView X Z S) → map key (sequence view) ≡ (shows key view).hashes
+hashes_listed key view =
+    elim view.sketch as (λ v. map key (viewed_lending v).rest ≡ (viewed_shows key v).hashes) [
+      | Mutable sketch ↦ refl
+      | Compact sketch ↦ refl
+    ]
 
 -- a view of this sketch: what the sketch shows, its entries and its value
 abbrev pub ViewsSketch : {X Z S : Type 0} → (key : X → ℕ) → SketchView X Z S → Updatable X → Type 0

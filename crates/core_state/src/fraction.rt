@@ -1,5 +1,6 @@
 //! The estimates of compact states.
 ghost use Rattle.std.specs.Prelude.{◌≡◌, ◌≤◌};
+ghost use Rattle.core_compact.specs.CompactState.{IsCompact};
 ghost use Rattle.core_state.specs.Fraction.{compact_fraction};
 ghost use Rattle.estimates.specs.Fraction.{decimal_of};
 ghost use Rattle.estimates.specs.declared.fraction.TheConstants.{MAX_PLACES};
@@ -14,7 +15,8 @@ use std::alloc::Allocator;
 pub fn compact_fraction<E: SketchEntry, A: Allocator>(
     state: &CompactSketchState<E, A>,
 ) -> (u128, u128)
-    ensures { result ≡ compact_fraction state.now }
+    ensures fraction { result ≡ compact_fraction state.now }
+    ensures sound { IsCompact E.key state.now }
 {
     count_fraction(
         state.is_empty(),
@@ -32,6 +34,5 @@ pub fn compact_decimal<E: SketchEntry, A: Allocator>(
     requires limited { places ≤ MAX_PLACES }
     ensures { result ≡ decimal_of (compact_fraction state.now) places }
 {
-    let _ = state.retained_entries();
     estimate_decimal(compact_fraction(state), places)
 }

@@ -1,5 +1,5 @@
 //! The state of a sketch that takes updates, of either family.
-ghost use Rattle.std.specs.Prelude.{◌≡◌, ◌≤◌, ◌==◌, ◌&&◌, ◌^◌, true, false, not, nat_lt, None, length, IfOk, OnOk};
+ghost use Rattle.std.specs.Prelude.{◌≡◌, ◌<◌, ◌≤◌, ◌==◌, ◌&&◌, ◌^◌, true, false, not, nat_lt, None, length, IfOk, OnOk};
 ghost use Rattle.std.specs.Prelude.{OnErr};
 ghost use Rattle.std.specs.List.{concat};
 ghost use Rattle.std.specs.Option.{ForSome};
@@ -14,7 +14,7 @@ ghost use Rattle.core_table.specs.HashTable.{trimmed_table};
 ghost use Rattle.core_laws.specs.Insertion.{upsert_allocates, RefusesUpsert};
 ghost use Rattle.core_state.specs.Updatable.{IsUpdatable, sketch_value, sketch_shows, StopsUpdates};
 ghost use Rattle.core_laws.specs.Values.{theta_of, count_of, fraction_of};
-ghost use Rattle.core_laws.specs.Shown.{IsShown};
+ghost use Rattle.core_laws.specs.Shown.{IsShown, shown_value};
 ghost use Rattle.estimates.specs.Fraction.{decimal_of};
 ghost use Rattle.estimates.specs.declared.fraction.TheConstants.{MAX_PLACES};
 
@@ -98,14 +98,23 @@ impl<E: SlotEntry, A: Allocator> UpdatableState<E, A> {
         ensures listed { result ≡ length self.now.sequence }
         ensures sound { IsShown (sketch_shows E.key self.now) }
     {
-        let _ = self.table.iter_entries();
         self.table.num_retained()
+    }
+
+    /// Called for its clauses alone, where nothing else that is called states them: what holds of every state.
+    pub(crate) fn laws(&self)
+        ensures limited { length self.now.map.kept.entries < 2 ^ 32 }
+        ensures value { shown_value E.key (sketch_shows E.key self.now) self.now.sequence ≡ sketch_value self.now }
+    {
+        self.table.num_retained();
     }
 
     /// The estimated number of distinct values seen, as a fraction: the retained entries times `MAX_THETA`, over
     /// theta, not reduced; 0 over 1 if it is empty.
     pub fn estimate_fraction(&self) -> (u128, u128)
-        ensures { result ≡ fraction_of (sketch_value self.now) }
+        ensures fraction { result ≡ fraction_of (sketch_value self.now) }
+        ensures limited { result.0 < 2 ^ 95 }
+        ensures sound { IsShown (sketch_shows E.key self.now) }
     {
         count_fraction(
             self.empty,
@@ -119,7 +128,6 @@ impl<E: SlotEntry, A: Allocator> UpdatableState<E, A> {
         requires limited { places ≤ MAX_PLACES }
         ensures { result ≡ decimal_of (fraction_of (sketch_value self.now)) places }
     {
-        let _ = self.num_retained();
         estimate_decimal(self.estimate_fraction(), places)
     }
 
@@ -148,6 +156,7 @@ impl<E: SlotEntry, A: Allocator> UpdatableState<E, A> {
     pub fn entries(&self) -> EntryIter<'_, E>
         ensures listed { result ≡ record { rest = self.now.sequence; counted = false } }
         ensures each_once { IsListing E.key self.now.map.kept.entries self.now.sequence }
+        ensures sound { IsShown (sketch_shows E.key self.now) }
     {
         EntryIter::of_table(&self.table)
     }
@@ -225,7 +234,7 @@ impl<E: SlotEntry + Clone, A: Allocator + Clone> UpdatableState<E, A> {
         ensures ok { IfOk result (IsAnswer E.key (sketch_value self.now) self.now.map.seed_hash ordered) }
         ensures refused { Refuses result None true }
     {
-        let _ = self.num_retained();
+        self.laws();
         let state = if self.empty {
             CompactSketchState::empty(self.table.allocator().clone()?, self.seed_hash())
         } else {

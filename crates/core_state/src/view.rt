@@ -5,7 +5,7 @@ ghost use Rattle.core_slots.specs.Entry.{tuple_key};
 ghost use Rattle.core_laws.specs.Entries.{hash_key};
 ghost use Rattle.core_state.specs.Updatable.{sketch_shows, sketch_value};
 ghost use Rattle.core_laws.specs.Shown.{IsShown, shown_value};
-ghost use Rattle.core_state.specs.View.{shows, sequence, lending};
+ghost use Rattle.core_state.specs.View.{shows, sequence, lending, hashes_listed};
 ghost use Rattle.core_operators.specs.View.{metadata_of};
 
 use crate::iter::ThetaSketchIter;
@@ -56,7 +56,7 @@ impl<'a, E: SlotEntry, A: Allocator> SketchView<'a, E, A> {
         ensures sequence { sequence result ≡ state.entry.now.sequence }
         ensures value { shown_value E.key (shows E.key result) (sequence result) ≡ sketch_value state.entry.now }
     {
-        let _ = state.entries();
+        state.laws();
         SketchView {
             sketch: Viewed::Mutable(state),
         }
@@ -131,7 +131,6 @@ impl<'a, A: Allocator> SketchView<'a, ThetaEntry, A> {
         ensures listed { result ≡ lending self.now }
         ensures sound { IsShown (shows hash_key self.now) }
     {
-        let _ = self.num_retained();
         ThetaSketchIter::over(entries_of_view(*self))
     }
 }
@@ -143,13 +142,13 @@ impl<'a, S: Drop, A: Allocator> SketchView<'a, TupleEntry<S>, A> {
         ensures listed { result ≡ lending self.now }
         ensures sound { IsShown (shows tuple_key self.now) }
     {
-        let _ = self.num_retained();
         entries_of_view(*self)
     }
 }
 
 fn entries_of_view<'a, E: SlotEntry, A: Allocator>(view: SketchView<'a, E, A>) -> EntryIter<'a, E>
-    ensures { result ≡ lending view.entry }
+    ensures listed { result ≡ lending view.entry }
+    ensures sound { IsShown (shows E.key view.entry) }
 {
     match view.sketch {
         Viewed::Mutable(sketch) => sketch.entries(),
@@ -183,7 +182,6 @@ fn hashes_of<'a, E: SlotEntry, A: Allocator>(view: SketchView<'a, E, A>) -> Hash
     ensures all { result.rest ≡ (shows E.key view.entry).hashes }
     ensures sound { IsShown (shows E.key view.entry) }
 {
-    let _ = view.num_retained();
     HashIter::new(entries_of_view(view))
 }
 
@@ -224,7 +222,8 @@ where
     ghost listing = { sequence };
 
     fn entries(&self) -> EntryIter<'_, E> {
-        let _ = self.num_retained();
         entries_of_view(*self)
     }
+
+    ghost lists = { λ s. hashes_listed E.key s };
 }

@@ -112,6 +112,17 @@ module _ {X : Type 0} (key : X → ℕ) where
   pub key_found : (lg h p : ℕ) (x : X) (slots : List (Option X)) → slot slots p ≡ Some x → is_other key h (slot slots p) ≡ false → key x ≡ h
   key_found lg h p x slots present ends = let other : is_other key h (Some x) ≡ false = ap (is_other key h) (sym present) ∙ ends in grind (arith, nat_tests)
 
+  -- there are fewer entries than a `usize` can count
+  pub slotted_fits : (t : MapTable X) (lg grow count : ℕ) (slots : List (Option X)) → IsSlotted key t lg grow count slots → length (filled slots) < 2 ^ 64
+  slotted_fits t lg grow count slots is =
+      (elim t.has_slots as (λ b. t.has_slots ≡ b → length (filled slots) < 2 ^ 64) [
+        | true ↦ λ e.
+            let sized = is.sized e in
+            let most : 2 ^ lg ≤ 2 ^ 33 = pow_mono {i = lg} {j = 33} (omega (arith, sized.within, sized.nom_high)) in
+            omega (arith, is.counted, sized.room, most)
+        | false ↦ λ e. rw (is.without e) (omega arith)
+      ]) refl
+
   -- the count is that of the map
   pub slotted_count : (t : MapTable X) (lg grow count : ℕ) (slots : List (Option X)) → IsSlotted key t lg grow count slots → count ≡ length (map_of key (filled slots))
   slotted_count t lg grow count slots is =

@@ -1,7 +1,7 @@
 -- The value of a hash table, its laws and its sizes.
 use Rattle.std.specs.Prelude.{ℕ, ◌<◌, ◌≤◌, ◌≡◌, ◌==◌, ◌+◌, ◌-◌, ◌*◌, ◌/◌, ◌%◌, ◌^◌, ◌&&◌, ◌||◌, ◌⊎◌, true, false}
 use Rattle.std.specs.Prelude.{List, [], nat_lt, nat_le, min, Bool, if◌then◌else◌, Option, length, is_some, IsTrue}
-use Rattle.std.specs.Prelude.{Result}
+use Rattle.std.specs.Prelude.{Result, IfOk, OnErr}
 use Rattle.std.specs.Int.Count.{count_leading_zeros}
 use Rattle.std.specs.List.{concat}
 use Rattle.sketch_base.specs.Seed.{seed_hash, hash_of}
@@ -254,6 +254,19 @@ AreEnoughLooks hash old new =
 -- an insertion of a screened hash counts nothing
 abbrev pub IsUncountedIfScreened : {X : Type 0} → (hash : ℕ) → (old new : Table X) → Type 0
 IsUncountedIfScreened hash old new = is_screened hash old.map.kept.theta ≡ true → new.counts ≡ old.counts
+
+-- how an insertion of a hash works, by whether it made an entry: what it counts, how the slots grow, and what it leaves as it
+-- was if it is refused
+pub record Works {X : Type 0} (hash : ℕ) (old : Table X) (result : Result Bool ErrorKind) (new : Table X) : Type 0 where
+  pub ticked : IfOk result (λ created. new.counts ≡ record (counts_after old created) { looks = new.counts.looks })
+  pub unticked : OnErr result (new.counts ≡ record old.counts { looks = new.counts.looks })
+  pub sized : IfOk result (λ created. new.layout.lg_cur ≡ lg_cur_after old created)
+  pub grows : new.layout.grow ≡ old.layout.grow
+  pub looks : AreFewLooks old new
+  pub looked : AreEnoughLooks hash old new
+  pub looks_kept : old.counts.looks ≤ new.counts.looks
+  pub screened : IsUncountedIfScreened hash old new
+  pub layout_err : OnErr result (new.layout ≡ old.layout)
 
 -- a table has fewer entries than its slots may have
 abbrev pub IsBelowThreshold : {X : Type 0} → Table X → Type 0

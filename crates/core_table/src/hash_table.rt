@@ -17,8 +17,7 @@ ghost use Rattle.core_table.specs.HashTable.{may_insert, threshold, sub_multiple
 ghost use Rattle.core_table.specs.HashTable.{ticked, key_hash, after_insertion, after_hash, creates_hash};
 ghost use Rattle.core_table.specs.HashTable.{hash_allocates, after_tuple, creates_tuple, trimmed_table, cut_table};
 ghost use Rattle.core_table.specs.HashTable.{StopsAtMemory, counts_after, lg_cur_after, counts_after_trim};
-ghost use Rattle.core_table.specs.HashTable.{AreFewLooks, AreEnoughLooks, IsUncountedIfScreened, IsBelowThreshold};
-ghost use Rattle.core_table.specs.HashTable.{RefusesBelowThreshold};
+ghost use Rattle.core_table.specs.HashTable.{IsBelowThreshold, RefusesBelowThreshold, Works};
 ghost use Rattle.core_table.specs.ResizeFactor.{lg_of};
 ghost use Rattle.core_slots.specs.SlotLayout.{filled, slot, is_other, IsOnPath, IsLaidOut, entries_in, slot_map};
 ghost use Rattle.core_slots.specs.Placing.{LooksForEach, LooksAtPlaced};
@@ -243,7 +242,9 @@ impl<E: SlotEntry, A: Allocator> SketchHashTable<E, A> {
 
     /// How many entries it retains; each of their hashes is below its theta.
     pub fn num_retained(&self) -> usize
-        ensures { result ≡ length self.now.map.kept.entries }
+        ensures count { result ≡ length self.now.map.kept.entries }
+        ensures each_once { IsListing E.key self.now.map.kept.entries self.now.sequence }
+        ensures sound { IsTable E.key self.now.map }
     {
         self.count
     }
@@ -343,7 +344,6 @@ impl<E: SlotEntry, A: Allocator> SketchHashTable<E, A> {
         ensures fits { length self.now.sequence < 2 ^ 64 }
         ensures sound { IsTable E.key self.now.map }
     {
-        let _count = self.count;
         SketchHashTableIter::over(&self.slots)
     }
 }
@@ -403,19 +403,10 @@ impl<E: SlotEntry + Drop, A: Allocator + Clone> SketchHashTable<E, A> {
         ensures after { OnOk result (self.new.map ≡ after_insertion E.key hash (S.means step) self.old.map) }
         ensures err { OnErr result (self.new.map ≡ self.old.map) }
         ensures refused { RefusesUpsert result E.key hash (S.means step) self.old.map.kept }
-        ensures looks { AreFewLooks self.old self.new }
         ensures memory { RefusesBelowThreshold result E.key hash (S.means step) self.old }
-        ensures ticked { IfOk result (λ created.
-            self.new.counts ≡ record (counts_after self.old created) { looks = self.new.counts.looks }) }
-        ensures unticked { OnErr result (self.new.counts ≡ record self.old.counts { looks = self.new.counts.looks }) }
-        ensures sized { IfOk result (λ created. self.new.layout.lg_cur ≡ lg_cur_after self.old created) }
-        ensures grows { self.new.layout.grow ≡ self.old.layout.grow }
         ensures seldom { (self.new.counts.rebuilds ≡ self.old.counts.rebuilds)
             ⊎ (7 * 2 ^ self.old.map.lg_nom < 8 * (self.old.counts.fresh + 1)) }
-        ensures looked { AreEnoughLooks hash self.old self.new }
-        ensures looks_kept { self.old.counts.looks ≤ self.new.counts.looks }
-        ensures screened { IsUncountedIfScreened hash self.old self.new }
-        ensures layout_err { OnErr result (self.new.layout ≡ self.old.layout) }
+        ensures works { Works hash self.old result self.new }
     {
         // After many insertions most hashes are at least theta, so this is checked first.
         if hash >= self.theta || hash == 0 {
@@ -521,7 +512,7 @@ impl<E: SlotEntry + Drop, A: Allocator + Clone> SketchHashTable<E, A> {
         let Some(place) = found else {
             return Ok(false);
         };
-        let _created = self.upsert_at(hash, place, step)?;
+        self.upsert_at(hash, place, step)?;
         Ok(true)
     }
 
@@ -768,17 +759,7 @@ impl<A: Allocator + Clone> SketchHashTable<ThetaEntry, A> {
         ensures refused { let h = key_hash self.old.map (T.hash_input value) in
             Refuses result None (hash_allocates h self.old.map.kept) }
         ensures memory { IsBelowThreshold self.old → IsOk result }
-        ensures ticked { IfOk result (λ created.
-            self.new.counts ≡ record (counts_after self.old created) { looks = self.new.counts.looks }) }
-        ensures unticked { OnErr result (self.new.counts ≡ record self.old.counts { looks = self.new.counts.looks }) }
-        ensures sized { IfOk result (λ created. self.new.layout.lg_cur ≡ lg_cur_after self.old created) }
-        ensures grows { self.new.layout.grow ≡ self.old.layout.grow }
-        ensures looks { AreFewLooks self.old self.new }
-        ensures looked { let h = key_hash self.old.map (T.hash_input value) in AreEnoughLooks h self.old self.new }
-        ensures looks_kept { self.old.counts.looks ≤ self.new.counts.looks }
-        ensures screened { let h = key_hash self.old.map (T.hash_input value) in
-            IsUncountedIfScreened h self.old self.new }
-        ensures layout_err { OnErr result (self.new.layout ≡ self.old.layout) }
+        ensures works { Works (key_hash self.old.map (T.hash_input value)) self.old result self.new }
     {
         let hash = self.hash(value);
         self.try_insert_hash(hash)
@@ -796,16 +777,7 @@ impl<A: Allocator + Clone> SketchHashTable<ThetaEntry, A> {
         ensures err { OnErr result (self.new.map ≡ self.old.map) }
         ensures refused { Refuses result None (hash_allocates hash self.old.map.kept) }
         ensures memory { IsBelowThreshold self.old → IsOk result }
-        ensures ticked { IfOk result (λ created.
-            self.new.counts ≡ record (counts_after self.old created) { looks = self.new.counts.looks }) }
-        ensures unticked { OnErr result (self.new.counts ≡ record self.old.counts { looks = self.new.counts.looks }) }
-        ensures sized { IfOk result (λ created. self.new.layout.lg_cur ≡ lg_cur_after self.old created) }
-        ensures grows { self.new.layout.grow ≡ self.old.layout.grow }
-        ensures looks { AreFewLooks self.old self.new }
-        ensures looked { AreEnoughLooks hash self.old self.new }
-        ensures looks_kept { self.old.counts.looks ≤ self.new.counts.looks }
-        ensures screened { IsUncountedIfScreened hash self.old self.new }
-        ensures layout_err { OnErr result (self.new.layout ≡ self.old.layout) }
+        ensures works { Works hash self.old result self.new }
     {
         self.upsert_entry(hash, PutStep::new(ThetaEntry::of_hash(hash)))
     }
@@ -930,17 +902,7 @@ impl<S: Drop, A: Allocator + Clone> SketchHashTable<TupleEntry<S>, A> {
             RefusesUpsert result tuple_key h (entry_step h (U.means step)) self.old.map.kept }
         ensures memory { let h = key_hash self.old.map (T.hash_input key) in
             RefusesBelowThreshold result tuple_key h (entry_step h (U.means step)) self.old }
-        ensures ticked { IfOk result (λ created.
-            self.new.counts ≡ record (counts_after self.old created) { looks = self.new.counts.looks }) }
-        ensures unticked { OnErr result (self.new.counts ≡ record self.old.counts { looks = self.new.counts.looks }) }
-        ensures sized { IfOk result (λ created. self.new.layout.lg_cur ≡ lg_cur_after self.old created) }
-        ensures grows { self.new.layout.grow ≡ self.old.layout.grow }
-        ensures looks { AreFewLooks self.old self.new }
-        ensures looked { let h = key_hash self.old.map (T.hash_input key) in AreEnoughLooks h self.old self.new }
-        ensures looks_kept { self.old.counts.looks ≤ self.new.counts.looks }
-        ensures screened { let h = key_hash self.old.map (T.hash_input key) in
-            IsUncountedIfScreened h self.old self.new }
-        ensures layout_err { OnErr result (self.new.layout ≡ self.old.layout) }
+        ensures works { Works (key_hash self.old.map (T.hash_input key)) self.old result self.new }
     {
         let hash = self.hash(key);
         self.try_insert_hash(hash, step)
@@ -963,16 +925,7 @@ impl<S: Drop, A: Allocator + Clone> SketchHashTable<TupleEntry<S>, A> {
         ensures err { OnErr result (self.new.map ≡ self.old.map) }
         ensures refused { RefusesUpsert result tuple_key hash (entry_step hash (U.means step)) self.old.map.kept }
         ensures memory { RefusesBelowThreshold result tuple_key hash (entry_step hash (U.means step)) self.old }
-        ensures ticked { IfOk result (λ created.
-            self.new.counts ≡ record (counts_after self.old created) { looks = self.new.counts.looks }) }
-        ensures unticked { OnErr result (self.new.counts ≡ record self.old.counts { looks = self.new.counts.looks }) }
-        ensures sized { IfOk result (λ created. self.new.layout.lg_cur ≡ lg_cur_after self.old created) }
-        ensures grows { self.new.layout.grow ≡ self.old.layout.grow }
-        ensures looks { AreFewLooks self.old self.new }
-        ensures looked { AreEnoughLooks hash self.old self.new }
-        ensures looks_kept { self.old.counts.looks ≤ self.new.counts.looks }
-        ensures screened { IsUncountedIfScreened hash self.old self.new }
-        ensures layout_err { OnErr result (self.new.layout ≡ self.old.layout) }
+        ensures works { Works hash self.old result self.new }
     {
         self.upsert_entry(hash, EntryStep::new(hash, step))
     }

@@ -3,7 +3,7 @@ use Rattle.std.proofs.Common.{◌≡◌, ℕ, Bool, true, false, List, [], ◌�
 use Rattle.std.specs.List.{filter}
 use Rattle.std.specs.Str.{bytes_eq}
 use Rattle.estimates.specs.declared.bounds.Deviations.{Deviations}
-use Rattle.distinct_arguments.specs.Words.{number_of, byte_of, deviations_of, order_of, is_help, is_option, split_option}
+use Rattle.distinct_arguments.specs.Words.{number_of, byte_of, deviations_of, order_of, mode_of, is_help, is_option, split_option}
 use Rattle.distinct_arguments.specs.Shares.{ShareNumbers, share_of}
 use Rattle.distinct_arguments.specs.Table.{rows, has_row, option_of, name_of, short_of, kind_of}
 use Rattle.distinct_arguments.specs.Settings.{OptionValues, Mistake, seed_number, unknown_option, wrong_value, seed_in, value_or, with_seed}
@@ -14,6 +14,7 @@ use Rattle.distinct_arguments.specs.declared.commands.Command.{Command}
 use Rattle.distinct_arguments.specs.declared.commands.Command.TheVariants as command
 use Rattle.distinct_arguments.specs.declared.commands.Operator.TheVariants as operator
 use Rattle.distinct_arguments.specs.declared.options.Order.{Order}
+use Rattle.distinct_arguments.specs.declared.options.Mode.{Mode}
 use Rattle.distinct_arguments.specs.declared.table.Kind.{Kind}
 use Rattle.distinct_arguments.specs.declared.table.Kind.TheVariants as kind
 use Rattle.distinct_arguments.specs.declared.table.OptionName.{OptionName}
@@ -25,6 +26,7 @@ unfolding rows
 once o.Field = refl
 once o.Separator = refl
 once o.Value = refl
+once o.Summary = refl
 once o.Visits = refl
 once o.Keys = refl
 once o.Sums = refl
@@ -57,6 +59,7 @@ unfolding rows
 named o.Field = refl
 named o.Separator = refl
 named o.Value = refl
+named o.Summary = refl
 named o.Visits = refl
 named o.Keys = refl
 named o.Sums = refl
@@ -88,6 +91,7 @@ unfolding rows
 short_named o.Field = refl
 short_named o.Separator = refl
 short_named o.Value = tt
+short_named o.Summary = tt
 short_named o.Visits = tt
 short_named o.Keys = tt
 short_named o.Sums = tt
@@ -167,6 +171,7 @@ last_number : (options : OptionValues) (option : OptionName) (m n : ℕ) → set
 last_number options o.Field m n = refl
 last_number options o.Separator m n = refl
 last_number options o.Value m n = refl
+last_number options o.Summary m n = refl
 last_number options o.Visits m n = refl
 last_number options o.Keys m n = refl
 last_number options o.Sums m n = refl
@@ -197,6 +202,7 @@ last_text : (options : OptionValues) (option : OptionName) (m n : List ℕ) → 
 last_text options o.Field m n = refl
 last_text options o.Separator m n = refl
 last_text options o.Value m n = refl
+last_text options o.Summary m n = refl
 last_text options o.Visits m n = refl
 last_text options o.Keys m n = refl
 last_text options o.Sums m n = refl
@@ -245,6 +251,9 @@ set_bounds options d = record options { bounds = Some d }
 abbrev set_sort : OptionValues → Order → OptionValues
 set_sort options order = record options { sort = Some order }
 
+abbrev set_mode : OptionValues → Mode → OptionValues
+set_mode options mode = record options { summary = Some mode }
+
 abbrev set_part : OptionValues → ShareNumbers → OptionValues
 set_part options share = record options { part = Some share }
 
@@ -268,6 +277,8 @@ last_of_kind kind.Deviations options between option name other first last is =
     last_read set_bounds (λ o m n. refl) (deviations_of first) (deviations_of last) (wrong_value option first) (wrong_value option last) options between is
 last_of_kind kind.Order options between option name other first last is =
     last_read set_sort (λ o m n. refl) (order_of first) (order_of last) (wrong_value option first) (wrong_value option last) options between is
+last_of_kind kind.Mode options between option name other first last is =
+    last_read set_mode (λ o m n. refl) (mode_of first) (mode_of last) (wrong_value option first) (wrong_value option last) options between is
 last_of_kind kind.Share options between option name other first last is =
     last_read set_part (λ o m n. refl) (share_of first) (share_of last) (wrong_value option first) (wrong_value option last) options between is
 last_of_kind kind.Text options between option name other first last is =

@@ -8,18 +8,20 @@ use Rattle.keys_lines.specs.declared.key.Key.{Key}
 use Rattle.keys_lines.specs.declared.key.Key.TheVariants.{Line, Field as FieldKey}
 use Rattle.estimates.specs.declared.bounds.Deviations.{Deviations}
 use Rattle.estimates.specs.declared.bounds.Deviations.TheVariants.{Two}
-use Rattle.distinct_arguments.specs.Words.{number_of, byte_of, deviations_of, order_of}
+use Rattle.distinct_arguments.specs.Words.{number_of, byte_of, deviations_of, order_of, mode_of}
 use Rattle.distinct_arguments.specs.Shares.{ShareNumbers, numbers_of, share_of}
 use Rattle.distinct_arguments.specs.declared.commands.Command.{Command}
 use Rattle.distinct_arguments.specs.declared.commands.Command.TheVariants.{Count, Visits as VisitsCommand}
 use Rattle.distinct_arguments.specs.declared.options.Form.{Form}
 use Rattle.distinct_arguments.specs.declared.options.Order.{Order}
+use Rattle.distinct_arguments.specs.declared.options.Mode.{Mode}
+use Rattle.distinct_arguments.specs.declared.options.Mode.TheVariants.{Sum as SumMode}
 use Rattle.distinct_arguments.specs.declared.options.Form.TheVariants.{Plain, Tsv as TsvForm, Json as JsonForm}
 use Rattle.distinct_arguments.specs.declared.options.Seed.{Seed as SeedOf}
 use Rattle.distinct_arguments.specs.declared.options.Seed.TheVariants.{Number as NumberSeed, File as FileSeed}
 use Rattle.distinct_arguments.specs.declared.options.Options.{Options}
 use Rattle.distinct_arguments.specs.declared.table.OptionName.{OptionName}
-use Rattle.distinct_arguments.specs.declared.table.OptionName.TheVariants.{Field, Separator, Value, Visits, Keys, Sums}
+use Rattle.distinct_arguments.specs.declared.table.OptionName.TheVariants.{Field, Separator, Value, Summary, Visits, Keys, Sums}
 use Rattle.distinct_arguments.specs.declared.table.OptionName.TheVariants.{Hex, FileList, Part, Dir, LgK, Seed, SeedFile, By}
 use Rattle.distinct_arguments.specs.declared.table.OptionName.TheVariants.{Groups, Expect, Sort, Min, Top, Progress, Bounds, Tsv}
 use Rattle.distinct_arguments.specs.declared.table.OptionName.TheVariants.{Json, Human, OutputDir, Output, Force, Quiet}
@@ -42,6 +44,7 @@ pub record OptionValues : Type 0 where
   pub least : Option ℕ
   pub most : Option ℕ
   pub value : Option ℕ
+  pub summary : Option Mode
   pub visits : Bool
   pub groups : Bool
   pub sums : Bool
@@ -78,6 +81,7 @@ default_options command = record {
   least = None;
   most = None;
   value = None;
+  summary = None;
   visits = false;
   groups = false;
   sums = false;
@@ -112,6 +116,10 @@ chosen_group options = option_map (λ number. FieldKey (number - 1) (unwrap_or o
 -- (9) as the default separator
 abbrev pub chosen_value : OptionValues → Option Key
 chosen_value options = option_map (λ number. FieldKey (number - 1) (unwrap_or options.separator 9)) options.value
+
+-- how the numbers of a key are combined: by default they are added
+abbrev pub chosen_mode : OptionValues → Mode
+chosen_mode options = unwrap_or options.summary SumMode
 
 -- why arguments are wrong
 pub data Mistake : Type 0 where
@@ -151,6 +159,7 @@ abbrev pub is_given : OptionValues → OptionName → Bool
 is_given options Field = is_some options.field
 is_given options Separator = is_some options.separator
 is_given options Value = is_some options.value
+is_given options Summary = is_some options.summary
 is_given options Visits = options.visits
 is_given options Keys = options.keys
 is_given options Sums = options.sums
@@ -259,6 +268,7 @@ value_of kind.Seed options option name value = with_seed options (seed_in value)
 value_of kind.Deviations options option name value = value_or (wrong_value option value) (λ d. record options { bounds = Some d }) (deviations_of value)
 value_of kind.Order options option name value = value_or (wrong_value option value) (λ order. record options { sort = Some order }) (order_of value)
 value_of kind.Share options option name value = value_or (wrong_value option value) (λ share. record options { part = Some share }) (share_of value)
+value_of kind.Mode options option name value = value_or (wrong_value option value) (λ mode. record options { summary = Some mode }) (mode_of value)
 value_of kind.Text options option name value = Ok (set_text options option value)
 
 abbrev pub with_value : OptionValues → OptionName → (name value : List ℕ) → Result OptionValues Mistake
@@ -279,6 +289,7 @@ options_of o = record {
   least = o.least;
   most = o.most;
   value = o.value;
+  summary = o.summary;
   visits = o.visits;
   groups = o.groups;
   sums = o.sums;

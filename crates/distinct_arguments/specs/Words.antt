@@ -14,6 +14,8 @@ use Rattle.distinct_arguments.specs.declared.commands.Command.TheVariants.{Count
 use Rattle.distinct_arguments.specs.declared.commands.Command.TheVariants.{Visits, Sum}
 use Rattle.distinct_arguments.specs.declared.options.Order.{Order}
 use Rattle.distinct_arguments.specs.declared.options.Order.TheVariants.{Name, Estimate}
+use Rattle.distinct_arguments.specs.declared.options.Mode.{Mode}
+use Rattle.distinct_arguments.specs.declared.options.Mode.TheVariants as mode
 
 -- the bytes of words
 abbrev pub words_of : {A : Type 0} → List (String A) → List (List ℕ)
@@ -114,3 +116,10 @@ abbrev pub order_of : List ℕ → Option Order
 order_of word =
     if bytes_eq word (codes "name") then Some Name else
     if bytes_eq word (codes "estimate") then Some Estimate else None
+
+-- the way to combine the numbers of a key that a word names
+abbrev pub mode_of : List ℕ → Option Mode
+mode_of word =
+    if bytes_eq word (codes "sum") then Some mode.Sum else
+    if bytes_eq word (codes "min") then Some mode.Min else
+    if bytes_eq word (codes "max") then Some mode.Max else None

@@ -118,6 +118,7 @@ impl fmt::Display for Kind {
             Kind::Seed => write!(f, "a number from 0 to {}", u64::MAX),
             Kind::Deviations => write!(f, "1, 2 or 3, as in --bounds=2"),
             Kind::Order => write!(f, "name or estimate"),
+            Kind::Mode => write!(f, "sum, min or max"),
             Kind::Share => write!(f, "a part and the number of parts, as 1/8 to 8/8"),
             Kind::Text => write!(f, "any text"),
         }

@@ -82,6 +82,9 @@ Read:
   -d, --separator C       the byte between fields, with --field, --by or --value; default a tab
       --value M           write an image of sums: for each key, the sum of field M (see distinct
                           sum --help). Not with --by or --progress
+      --summary MODE      with --value: keep for each key the sum of its numbers, the least or the
+                          greatest. MODE is sum, the default, min or max; an image does not
+                          record it
       --visits            write an image of sums: for each key, the number of its lines (see
                           distinct visits --help). Not with --value, --by or --progress
       --files0-from FILE  read the names of the files from FILE, each ended by a NUL byte
@@ -117,6 +120,9 @@ distinct union [OPTION..] IMAGE..: writes the union of the sketches
 
 Read:
       --sums              unite images of sums: the sums of a key are added. Not with --groups
+      --summary MODE      with --sums: add the sums of a key, or keep the least or the greatest.
+                          MODE is sum, the default, min or max; pass that of sketch: an image
+                          does not record it
       --hex               read and write images in hexadecimal, one per line
       --files0-from FILE  read the names of the files from FILE, each ended by a NUL byte
   -C DIR                  names of files are relative to the folder DIR
@@ -226,6 +232,9 @@ Read:
       --sums              read images of sums and print the total, an estimate if keys were
                           dropped. + and & add the sums of a key, - keeps the sums on its left.
                           Not with --bounds or --keys
+      --summary MODE      with --sums: + and & add the sums of a key, or keep the least or the
+                          greatest. MODE is sum, the default, min or max; pass that of sketch.
+                          The total adds the sums that the keys have then
       --hex               read and write images in hexadecimal, one line per file
   -C DIR                  names of files are relative to the folder DIR
 

@@ -22,7 +22,7 @@ pub use commands::{Command, Operator, Request, Topic};
 pub use fault::{Escaped, Fault};
 pub use files::{check_output, reads_texts};
 pub use help::text_of;
-pub use options::{Form, Options, Order, Seed};
+pub use options::{Form, Mode, Options, Order, Seed};
 pub use places::options_first;
 pub use share::Share;
 pub use table::{OptionName, has_option};

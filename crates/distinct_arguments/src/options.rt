@@ -30,6 +30,17 @@ pub enum Order {
     Estimate,
 }
 
+/// How the numbers of a key are combined.
+#[derive(Clone, Copy, Debug, PartialEq, Eq)]
+pub enum Mode {
+    /// They are added.
+    Sum,
+    /// The least is kept.
+    Min,
+    /// The greatest is kept.
+    Max,
+}
+
 /// The options of a command.
 #[derive(Clone, Copy, Debug)]
 pub struct Options<'a> {
@@ -49,6 +60,8 @@ pub struct Options<'a> {
     pub most: Option<u64>,
     /// The number of the field that has the number of a line, from 1, or `None` if no numbers are read.
     pub value: Option<u32>,
+    /// How the numbers of a key are combined; added if `None`.
+    pub summary: Option<Mode>,
     /// Whether each line adds one to a sum.
     pub visits: bool,
     /// Whether images are united by the groups of their lines.

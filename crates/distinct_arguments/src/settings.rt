@@ -1,7 +1,7 @@
 //! What options do to the values of options.
 ghost use Rattle.std.specs.Prelude.{◌≡◌, ◌≤◌, ◌<◌};
 ghost use Rattle.std.specs.Option.{option_map};
-ghost use Rattle.distinct_arguments.specs.Settings.{default_lg_k, default_options, chosen_key, chosen_group, chosen_value};
+ghost use Rattle.distinct_arguments.specs.Settings.{default_lg_k, default_options, chosen_key, chosen_group, chosen_mode, chosen_value};
 ghost use Rattle.distinct_arguments.specs.Settings.{given_or, is_file, is_given, seed_in, seed_value, wrong_value};
 ghost use Rattle.distinct_arguments.specs.Settings.{options_of, set_flag, set_number, set_text, with_flag, with_value};
 ghost use Rattle.distinct_arguments.specs.Settings.{IsOfKind};
@@ -10,9 +10,9 @@ ghost use Rattle.distinct_arguments.specs.Table.{kind_of};
 
 use crate::commands::Command;
 use crate::fault::{Fault, WrongWord, quoting};
-use crate::options::{Form, Options, Seed};
+use crate::options::{Form, Mode, Options, Seed};
 use crate::table::{Kind, OptionName, kind_of};
-use crate::words::{byte_of, deviations_of, number_of, order_of, share_of};
+use crate::words::{byte_of, deviations_of, mode_of, number_of, order_of, share_of};
 use core_laws::DEFAULT_LG_K;
 use estimates::Deviations;
 use keys_lines::Key;
@@ -51,6 +51,7 @@ impl<'a> Options<'a> {
             least: None,
             most: None,
             value: None,
+            summary: None,
             visits: false,
             groups: false,
             sums: false,
@@ -92,6 +93,13 @@ impl<'a> Options<'a> {
         }
     }
 
+    /// How the numbers of a key are combined.
+    pub fn mode(&self) -> Mode
+        ensures { result ≡ chosen_mode (options_of self.now) }
+    {
+        self.summary.unwrap_or(Mode::Sum)
+    }
+
     /// Which part of a line is its number; `None` if no numbers are read.
     pub fn value(&self) -> Option<Key>
         ensures { result ≡ chosen_value (options_of self.now) }
@@ -111,6 +119,7 @@ pub(crate) fn is_given(options: &Options<'_>, option: OptionName) -> bool
         OptionName::Field => options.field.is_some(),
         OptionName::Separator => options.separator.is_some(),
         OptionName::Value => options.value.is_some(),
+        OptionName::Summary => options.summary.is_some(),
         OptionName::Visits => options.visits,
         OptionName::Keys => options.keys,
         OptionName::Sums => options.sums,
@@ -325,6 +334,10 @@ pub(crate) fn with_value<'a>(
         }
         Kind::Order => {
             changed.sort = Some(given(alloc, option, value, order_of(value))?);
+            Ok(changed)
+        }
+        Kind::Mode => {
+            changed.summary = Some(given(alloc, option, value, mode_of(value))?);
             Ok(changed)
         }
         Kind::Text => Ok(set_text(options, option, value)),

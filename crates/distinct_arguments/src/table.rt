@@ -16,6 +16,7 @@ pub enum OptionName {
     Field,
     Separator,
     Value,
+    Summary,
     Visits,
     Keys,
     Sums,
@@ -58,6 +59,8 @@ pub(crate) enum Kind {
     Deviations,
     /// The name of an order of groups.
     Order,
+    /// The name of a way to combine the numbers of a key.
+    Mode,
     /// The number of a part of each file, a slash, and the number of parts.
     Share,
     /// Any text.
@@ -98,7 +101,7 @@ const ALL: &[&str] = &[
 const MOST: u64 = 4294967295;
 
 /// The options: what is read, how it is counted, and what is printed. If several rules are broken, the first counts.
-pub(crate) const OPTIONS: [Row; 28] = [
+pub(crate) const OPTIONS: [Row; 29] = [
     (
         OptionName::Field,
         "--field",
@@ -140,6 +143,25 @@ pub(crate) const OPTIONS: [Row; 28] = [
                 ALL,
                 Rule::Excludes(OptionName::Progress),
                 ": drop --progress",
+            ),
+        ],
+    ),
+    (
+        OptionName::Summary,
+        "--summary",
+        None,
+        Kind::Mode,
+        &["sketch", "union", "eval"],
+        &[
+            (
+                &["sketch"],
+                Rule::Needs(OptionName::Value),
+                ", whose numbers it combines",
+            ),
+            (
+                &["union", "eval"],
+                Rule::Needs(OptionName::Sums),
+                ", whose sums it combines",
             ),
         ],
     ),
@@ -376,7 +398,7 @@ pub(crate) const OPTIONS: [Row; 28] = [
 ];
 
 /// The rows of the table.
-pub(crate) fn all_rows() -> [Row; 28]
+pub(crate) fn all_rows() -> [Row; 29]
     ensures { map row_in result ≡ rows }
 {
     OPTIONS

@@ -3,11 +3,12 @@ ghost use Rattle.std.specs.Prelude.{◌≡◌, ◌==◌, slice_index, Some};
 ghost use Rattle.std.specs.Option.{option_map};
 ghost use Rattle.distinct_arguments.specs.Commands.{command_of, word_of};
 ghost use Rattle.distinct_arguments.specs.Words.{is_help, is_version, is_dir, is_option};
-ghost use Rattle.distinct_arguments.specs.Words.{setting_with, short_parts, split_setting, split_option, number_of, byte_of, seed_of, deviations_of, order_of};
+ghost use Rattle.distinct_arguments.specs.Words.{setting_with, short_parts, split_setting, split_option, number_of};
+ghost use Rattle.distinct_arguments.specs.Words.{byte_of, seed_of, deviations_of, order_of, mode_of};
 ghost use Rattle.distinct_arguments.specs.Shares.{numbers_of, share_of};
 
 use crate::commands::{Command, Operator};
-use crate::options::Order;
+use crate::options::{Mode, Order};
 use crate::share::Share;
 use crate::table::takes_attached;
 use estimates::Deviations;
@@ -184,6 +185,18 @@ pub(crate) fn order_of(word: &str) -> Option<Order>
     match word {
         "name" => Some(Order::Name),
         "estimate" => Some(Order::Estimate),
+        _ => None,
+    }
+}
+
+/// The way to combine the numbers of a key that a word names.
+pub(crate) fn mode_of(word: &str) -> Option<Mode>
+    ensures { result ≡ mode_of word.now }
+{
+    match word {
+        "sum" => Some(Mode::Sum),
+        "min" => Some(Mode::Min),
+        "max" => Some(Mode::Max),
         _ => None,
     }
 }

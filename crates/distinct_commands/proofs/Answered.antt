@@ -9,6 +9,7 @@ use Rattle.core_laws.specs.Values.{Sketch, Empty, NonEmpty}
 use Rattle.core_slots.specs.declared.entry.TupleEntry.{TupleEntry}
 use Rattle.keys_lines.specs.Lines.{lines_of_all}
 use Rattle.keys_lines.specs.declared.key.Key.{Key}
+use Rattle.tuple_sketches.specs.declared.numbers.SummaryMode.TheVariants.{Sum}
 use Rattle.keys_sums.specs.Amounts.{AreNumbers}
 use Rattle.keys_sums.specs.Images.{written_sums, ReadsSums}
 use Rattle.keys_sums.specs.Sums.{one_each}
@@ -25,7 +26,7 @@ use Rattle.keys_groups.specs.Groups.{AreGroups}
 use Rattle.distinct_inputs.specs.Images.{in_form}
 use Rattle.distinct_arguments.specs.Settings.{OptionValues, chosen_value}
 use Rattle.distinct_arguments.specs.declared.fault.Fault.TheVariants.{SumNeedsValue}
-use Rattle.distinct_inputs.specs.Failures.{IsOfSums, IsOfTotal, IsOfTotalOf}
+use Rattle.distinct_inputs.specs.Failures.{chosen_summary, IsOfSums, IsOfTotal, IsOfTotalOf}
 use Rattle.distinct_messages.specs.declared.failure.Failure.{Failure}
 use Rattle.distinct_messages.specs.declared.failure.Failure.TheVariants.{Arguments}
 
@@ -63,7 +64,7 @@ ordered_seed (NonEmpty v) h = refl
 
 -- the sketch of sums of lines, as its image is written
 pub summed : {V E : Type 0} (r : Result V E) (items : V → List ℕ) (known : Option (List (List ℕ))) (amount : Amount) (options : OptionValues) (seed : ℕ) (s : Compact (TupleEntry ℕ)) (image : List ℕ) →
-    IfSome known (λ texts. s ≡ sums_of options amount seed texts) → IfSome known (λ texts. AreNumbers amount (lines_of_all texts)) → image ≡ written_sums s → (s.seed_hash ≡ seed_hash seed → ReadsSums image (seed_hash seed) s) →
+    IfSome known (λ texts. s ≡ sums_of (chosen_summary options) options amount seed texts) → IfSome known (λ texts. AreNumbers amount (lines_of_all texts)) → image ≡ written_sums s → (s.seed_hash ≡ seed_hash seed → ReadsSums image (seed_hash seed) s) →
     IfOk r (λ v. items v ≡ in_form options.hex image) → IfSome known (λ texts. IfOk r (λ v. IsSumsText amount options seed texts (items v)))
 summed r items None amount options seed s image is numbers written reads form = tt
 summed (Err e) items (Some texts) amount options seed s image is numbers written reads form = tt
@@ -79,7 +80,7 @@ summed (Ok v) items (Some texts) amount options seed s image is numbers written 
 
 -- what is printed of a union of images of sums
 pub visited : (known : Option (List (List ℕ))) (options : OptionValues) (seed : ℕ) (s : Compact (TupleEntry ℕ)) (out : List ℕ) →
-    IfSome known (λ all. IsUnitedSums seed options.lg_k all s) → IfSome known (λ all. AreSumsOfTexts seed options.lg_k all s) → out ≡ visits_text options s → IfSome known (λ all. IsVisitsOfImages options seed all out)
+    IfSome known (λ all. IsUnitedSums Sum seed options.lg_k all s) → IfSome known (λ all. AreSumsOfTexts Sum seed options.lg_k all s) → out ≡ visits_text options s → IfSome known (λ all. IsVisitsOfImages options seed all out)
 visited None options seed s out united apart text = tt
 visited (Some all) options seed s out united apart text = record {
   sums = s;
@@ -100,5 +101,5 @@ lacks_value options seed texts None is none = subst (λ (value : Option Key). Is
 lacks_value options seed texts (Some field) is none = absurd (none field refl)
 
 -- lines are not summed by the field that has them
-pub not_summed : (options : OptionValues) (seed : ℕ) (texts : Option (List (List ℕ))) (field : Key) (f : Failure) → chosen_value options ≡ Some field → IsOfSums options seed (Number field) texts f → IsOfTotal options seed texts f
+pub not_summed : (options : OptionValues) (seed : ℕ) (texts : Option (List (List ℕ))) (field : Key) (f : Failure) → chosen_value options ≡ Some field → IsOfSums Sum options seed (Number field) texts f → IsOfTotal options seed texts f
 not_summed options seed texts field f is failed = subst (λ (value : Option Key). IsOfTotalOf value options seed texts f) (sym is) failed

@@ -16,7 +16,7 @@ use Rattle.expression_evaluation.proofs.WholeSets.{expression_sample}
 use Rattle.distinct_arguments.specs.Settings.{OptionValues}
 use Rattle.distinct_commands.proofs.WholeStreams.{whole_result}
 use Rattle.distinct_inputs.specs.Lists.{names_of}
-use Rattle.distinct_inputs.specs.Failures.{chosen_hashing}
+use Rattle.distinct_inputs.specs.Failures.{chosen_hashing, chosen_summary}
 use Rattle.distinct_commands.specs.Eval.{sketch_of_text, SketchesFirst, SketchesNext, AreSketchesOfTexts, AreOperands, IsEvaluated, evaluated_text}
 use Rattle.distinct_commands.specs.EvalSums.{IsSumsEvaluated, evaluated_sums_text}
 use Rattle.distinct_inputs.specs.Images.{images_of}
@@ -76,7 +76,7 @@ module _ (options : OptionValues) (seed : ℕ) where
   -- .. over sketches of sums
   pub sums_evaluated : {V E A : Type 0} (r : Result V E) (items : V → List ℕ) (known : Option (List (List ℕ))) (text : List ℕ) (names : List (String A)) (steps : List Step) (sketches : List (Compact (TupleEntry ℕ))) (s : Compact (TupleEntry ℕ)) →
       (spelled : IsExpressionText text (names_of names) steps) → IfSome known (λ texts. AreReadSums seed (images_of true options.hex texts) sketches) → length names ≡ length sketches →
-      s ≡ ordered_sketch (sums_value options.lg_k (sums_values sketches) spelled.tree) (seed_hash seed) → IfOk r (λ v. items v ≡ evaluated_sums_text options s) →
+      s ≡ ordered_sketch (sums_value (chosen_summary options) options.lg_k (sums_values sketches) spelled.tree) (seed_hash seed) → IfOk r (λ v. items v ≡ evaluated_sums_text options s) →
       IfSome known (λ texts. IfOk r (λ v. IsSumsEvaluated options seed text texts (items v)))
   sums_evaluated r items None text names steps sketches s spelled operands counted value put = tt
   sums_evaluated (Err e) items (Some texts) text names steps sketches s spelled operands counted value put = tt
@@ -88,5 +88,5 @@ module _ (options : OptionValues) (seed : ℕ) where
     operands = operands;
     counted = length-map names (λ name. string_bytes name) ∙ counted;
     result = put ∙ ap (evaluated_sums_text options) value;
-    whole = λ wholes samples. expression_sample sum_rules (λ x y same. same) options.lg_k (sums_values sketches) wholes spelled.tree samples;
+    whole = λ wholes samples. expression_sample (sum_rules (chosen_summary options)) (λ x y same. same) options.lg_k (sums_values sketches) wholes spelled.tree samples;
   }

@@ -14,8 +14,10 @@ use Rattle.core_operators.specs.Intersection.{is_settled, seed_refusal}
 use Rattle.core_laws.specs.Settings.{settings_refusal}
 use Rattle.keys_sketches.specs.Meeting.{first_refusal, meet_refusal, refusal_of_intersection}
 use Rattle.keys_sketches.specs.Refusals.{IsReadError, IsUniteRefusal}
+use Rattle.tuple_sketches.specs.declared.numbers.SummaryMode.{SummaryMode}
+use Rattle.tuple_sketches.specs.declared.numbers.SummaryMode.TheVariants.{Sum, Min, Max}
 use Rattle.keys_sums.specs.Operands.{IsReadSumsError}
-use Rattle.keys_sums.specs.Unions.{IsUniteSumsRefusal, HasNoSums}
+use Rattle.keys_sums.specs.Unions.{IsUniteSumsRefusal, HasNoSums, merge_refusal}
 use Rattle.keys_sketches.specs.declared.sketching.ReadError.{ReadError}
 use Rattle.keys_sketches.specs.declared.sketching.ReadError.TheVariants.{Refused, Failed}
 use Rattle.distinct_inputs.specs.Failures.{IsOfUniting}
@@ -40,19 +42,25 @@ united_kind seed refusal images (Refused e) none (inl is) = let both : None ≡ 
 united_kind seed refusal images (Refused e) none (inr (inl memory)) = inl memory
 united_kind seed refusal images (Refused e) none (inr (inr faulty)) = inr (inr (faulty.0, faulty.2))
 
-sums_kind : (seed : ℕ) (refusal : Option ErrorKind) (images : Option (List (List ℕ))) (u : ReadError) → refusal ≡ None → IsUniteSumsRefusal seed refusal images u → IsOfUniting true seed images u
-sums_kind seed refusal images (Failed error) none refused = tt
-sums_kind seed refusal images (Refused e) none (inl is) = let both : None ≡ Some e = sym none ∙ is in absurd (cc)
-sums_kind seed refusal images (Refused e) none (inr (inl memory)) = inl memory
-sums_kind seed refusal images (Refused e) none (inr (inr later)) = elim later.1 [ inl policy ↦ inr (inl (policy, refl)) | inr faulty ↦ inr (inr faulty) ]
+-- merges are refused with `Policy` alone
+merge_policy : (mode : SummaryMode) (e : ErrorKind) → merge_refusal mode ≡ Some e → e ≡ Policy
+merge_policy Sum e is = cc
+merge_policy Min e is = absurd (cc)
+merge_policy Max e is = absurd (cc)
+
+sums_kind : (mode : SummaryMode) (seed : ℕ) (refusal : Option ErrorKind) (images : Option (List (List ℕ))) (u : ReadError) → refusal ≡ None → IsUniteSumsRefusal mode seed refusal images u → IsOfUniting true seed images u
+sums_kind mode seed refusal images (Failed error) none refused = tt
+sums_kind mode seed refusal images (Refused e) none (inl is) = let both : None ≡ Some e = sym none ∙ is in absurd (cc)
+sums_kind mode seed refusal images (Refused e) none (inr (inl memory)) = inl memory
+sums_kind mode seed refusal images (Refused e) none (inr (inr later)) = elim later.1 [ inl policy ↦ inr (inl (merge_policy mode e policy, refl)) | inr faulty ↦ inr (inr faulty) ]
 
 pub uniting_refused : {V : Type 0} (r : Result V ReadError) (sums : Bool) (seed : ℕ) (refusal : Option ErrorKind) (images : Option (List (List ℕ))) → sums ≡ false → refusal ≡ None → IfErr r (IsUniteRefusal seed refusal images) → IfErr r (IsOfUniting sums seed images)
 uniting_refused (Ok v) sums seed refusal images is none refused = tt
 uniting_refused (Err u) sums seed refusal images is none refused = subst (λ b. IsOfUniting b seed images u) (sym is) (united_kind seed refusal images u none refused)
 
-pub sums_refused : {V : Type 0} (r : Result V ReadError) (sums : Bool) (seed : ℕ) (refusal : Option ErrorKind) (images : Option (List (List ℕ))) → sums ≡ true → refusal ≡ None → IfErr r (IsUniteSumsRefusal seed refusal images) → IfErr r (IsOfUniting sums seed images)
-sums_refused (Ok v) sums seed refusal images is none refused = tt
-sums_refused (Err u) sums seed refusal images is none refused = subst (λ b. IsOfUniting b seed images u) (sym is) (sums_kind seed refusal images u none refused)
+pub sums_refused : {V : Type 0} (mode : SummaryMode) (r : Result V ReadError) (sums : Bool) (seed : ℕ) (refusal : Option ErrorKind) (images : Option (List (List ℕ))) → sums ≡ true → refusal ≡ None → IfErr r (IsUniteSumsRefusal mode seed refusal images) → IfErr r (IsOfUniting sums seed images)
+sums_refused mode (Ok v) sums seed refusal images is none refused = tt
+sums_refused mode (Err u) sums seed refusal images is none refused = subst (λ b. IsOfUniting b seed images u) (sym is) (sums_kind mode seed refusal images u none refused)
 
 -- only unions of sums are refused for a sum of 2^64 or more
 pub policy_of_sums : (sums : Bool) (seed : ℕ) (images : Option (List (List ℕ))) (u : ReadError) (e : ErrorKind) → u ≡ Refused e → IsOfUniting sums seed images u → e ≡ Policy → sums ≡ true

@@ -6,6 +6,7 @@ use Rattle.core_laws.specs.Entries.{hash_key, first_hash}
 use Rattle.core_laws.specs.Operators.{meet, minus}
 use Rattle.theta_sketches.specs.Image.{Reads, written}
 use Rattle.sketch_base.specs.Seed.{seed_hash}
+use Rattle.tuple_sketches.specs.declared.numbers.SummaryMode.{SummaryMode}
 use Rattle.keys_lines.specs.Lines.{lines_of_all}
 use Rattle.keys_sketches.specs.Keys.{value_of_lines, sketch_of_value}
 use Rattle.keys_sketches.specs.Shards.{values_of_sketches, AreRead}
@@ -17,7 +18,7 @@ use Rattle.keys_groups.specs.United.{IsUnitedText}
 use Rattle.distinct_arguments.specs.Arguments.{Action, prints, runs, fails}
 use Rattle.distinct_arguments.specs.Texts.{text_of}
 use Rattle.distinct_messages.specs.Failures.{display_name}
-use Rattle.distinct_inputs.specs.Failures.{chosen_amount, chosen_hashing, unites_groups, unites_sums}
+use Rattle.distinct_inputs.specs.Failures.{chosen_amount, chosen_hashing, chosen_summary, unites_groups, unites_sums}
 use Rattle.distinct_commands.specs.Eval.{IsEvaluatedOf}
 use Rattle.distinct_inputs.specs.Images.{images_of, in_form}
 use Rattle.distinct_commands.specs.Groups.{IsGroupedText}
@@ -57,15 +58,16 @@ IsDifferenceImage seed images out =
 abbrev pub IsExpected : (expected : Option ℕ) → (count : ℕ) → Type 0
 IsExpected expected count = IfSome expected (λ number. number ≡ count)
 
--- the image of the union of the sketches in images, which are theta sketches, or sketches of sums; images of texts that
--- were sketched apart, or of their sums, are united to the image of all their lines
-abbrev pub IsUnionOf : (sums : Bool) → (seed lg_k : ℕ) → (images : List (List ℕ)) → List ℕ → Type 0
-IsUnionOf false seed lg_k images out = IsUnitedImage seed lg_k images out × UnitesTexts seed lg_k images out
-IsUnionOf true seed lg_k images out = IsUnitedSumsImage seed lg_k images out × UnitesSumsOfTexts seed lg_k images out
+-- the image of the union of the sketches in images, which are theta sketches, or sketches of sums that a mode combines; images of
+-- texts that were sketched apart, or of their sums, are united to the image of all their lines
+abbrev pub IsUnionOf : (sums : Bool) → SummaryMode → (seed lg_k : ℕ) → (images : List (List ℕ)) → List ℕ → Type 0
+IsUnionOf false mode seed lg_k images out = IsUnitedImage seed lg_k images out × UnitesTexts seed lg_k images out
+IsUnionOf true mode seed lg_k images out = IsUnitedSumsImage mode seed lg_k images out × UnitesSumsOfTexts mode seed lg_k images out
 
 -- the image that an operator makes of the sketches in images
 abbrev pub IsCombined : Operator → OptionValues → (seed : ℕ) → (images : List (List ℕ)) → List ℕ → Type 0
-IsCombined Union options seed images out = IsUnionOf options.sums seed options.lg_k images out × IsExpected options.expected (length images)
+IsCombined Union options seed images out =
+    IsUnionOf options.sums (chosen_summary options) seed options.lg_k images out × IsExpected options.expected (length images)
 IsCombined Meet options seed images out = IsIntersectionImage seed images out × IsExpected options.expected (length images)
 IsCombined Minus options seed images out = IsDifferenceImage seed images out
 

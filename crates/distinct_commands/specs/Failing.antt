@@ -4,6 +4,7 @@ use Rattle.std.specs.Prelude.{codes, string_bytes}
 use Rattle.std.specs.Option.{option_map}
 use Rattle.core_compact.specs.CompactState.{Compact}
 use Rattle.core_slots.specs.declared.entry.TupleEntry.{TupleEntry}
+use Rattle.tuple_sketches.specs.declared.numbers.SummaryMode.{SummaryMode}
 use Rattle.keys_sums.specs.Images.{AreReadSums}
 use Rattle.expression_text.specs.Grammar.{IsExpressionText, SpellsNothing}
 use Rattle.expression_text.specs.declared.operator.Step.{Step}
@@ -15,7 +16,7 @@ use Rattle.distinct_arguments.specs.declared.commands.Command.{Command}
 use Rattle.distinct_arguments.specs.declared.commands.Command.TheVariants.{Count, Sketch, Combine, Show, Eval}
 use Rattle.distinct_arguments.specs.declared.commands.Command.TheVariants.{Visits, Sum}
 use Rattle.distinct_arguments.specs.declared.fault.Fault.TheVariants.{NotOneExpression}
-use Rattle.distinct_inputs.specs.Failures.{images_in, unites_groups, IsOfReading, IsOfImages, IsOfSketch}
+use Rattle.distinct_inputs.specs.Failures.{chosen_summary, images_in, unites_groups, IsOfReading, IsOfImages, IsOfSketch}
 use Rattle.distinct_messages.specs.Failures.{IsOfWriting}
 use Rattle.distinct_inputs.specs.Failures.{IsOfOperator, IsOfVisits, IsOfTotal}
 use Rattle.distinct_inputs.specs.Images.{images_of}
@@ -60,28 +61,29 @@ abbrev pub IsOfThetas : OptionValues → (seed : ℕ) → (texts : Option (List 
 IsOfThetas options seed texts (NotOneEach found names) = found ≢ names
 IsOfThetas options seed texts failure = IsOfNames options.keys options.hex seed texts failure
 
--- an expression over sketches of sums has no result: memory was refused, or in some step two operands of a union or an
--- intersection have a key whose sums are 2^64 or more together
-abbrev pub IsOfResult : (lg_k : ℕ) → (text : List ℕ) → List Step → List (Compact (TupleEntry ℕ)) → Failure → Type 0
-IsOfResult lg_k text steps sketches Memory = ⊤
-IsOfResult lg_k text steps sketches (PastResult copy) = (string_bytes copy ≡ text) × MayRefuse sum_rules lg_k (sums_values sketches) steps (Some [])
-IsOfResult lg_k text steps sketches _ = ⊥
+-- an expression over sketches of sums has no result: memory was refused, or sums are added and in some step two operands of a
+-- union or an intersection have a key whose sums are 2^64 or more together
+abbrev pub IsOfResult : SummaryMode → (lg_k : ℕ) → (text : List ℕ) → List Step → List (Compact (TupleEntry ℕ)) → Failure → Type 0
+IsOfResult mode lg_k text steps sketches Memory = ⊤
+IsOfResult mode lg_k text steps sketches (PastResult copy) =
+    (string_bytes copy ≡ text) × MayRefuse (sum_rules mode) lg_k (sums_values sketches) steps (Some [])
+IsOfResult mode lg_k text steps sketches _ = ⊥
 
 -- .. over those that images have, one for each name
-pub record IsPastResult (lg_k seed : ℕ) (text : List ℕ) (images : List (List ℕ)) : Type 0 where
+pub record IsPastResult (mode : SummaryMode) (lg_k seed : ℕ) (text : List ℕ) (images : List (List ℕ)) : Type 0 where
   pub names : List (List ℕ)
   pub steps : List Step
   pub spelled : IsExpressionText text names steps
   pub sketches : List (Compact (TupleEntry ℕ))
   pub read : AreReadSums seed images sketches
   pub counted : length names ≡ length sketches
-  pub refused : MayRefuse sum_rules lg_k (sums_values sketches) steps (Some [])
+  pub refused : MayRefuse (sum_rules mode) lg_k (sums_values sketches) steps (Some [])
 
 -- an expression over images of sums isn't evaluated: a file is at fault, there are not as many as names, or a sum is past the result
 abbrev pub IsOfSumsResult : OptionValues → (seed : ℕ) → (text : List ℕ) → (texts : Option (List (List ℕ))) → Failure → Type 0
 IsOfSumsResult options seed text texts (NotOneEach found names) = found ≢ names
 IsOfSumsResult options seed text texts (PastResult copy) =
-    (string_bytes copy ≡ text) × IfSome texts (λ all. IsPastResult options.lg_k seed text (images_of true options.hex all))
+    (string_bytes copy ≡ text) × IfSome texts (λ all. IsPastResult (chosen_summary options) options.lg_k seed text (images_of true options.hex all))
 IsOfSumsResult options seed text texts failure = IsOfImages true options.hex seed (images_in true options texts) failure
 
 -- an expression isn't evaluated, over sketches of sums or over theta sketches

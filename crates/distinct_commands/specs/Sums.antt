@@ -1,8 +1,10 @@
--- The sums of lines: their images, and what `sum` prints.
+-- The sums of lines, or the least or the greatest numbers: their images, and what `sum` prints.
 use Rattle.std.specs.Prelude.{ℕ, ◌≡◌, ◌++◌, List, min, Option, Some, None}
 use Rattle.sketch_base.specs.Seed.{seed_hash}
 use Rattle.core_compact.specs.CompactState.{Compact}
 use Rattle.core_slots.specs.declared.entry.TupleEntry.{TupleEntry}
+use Rattle.tuple_sketches.specs.declared.numbers.SummaryMode.{SummaryMode}
+use Rattle.tuple_sketches.specs.declared.numbers.SummaryMode.TheVariants.{Sum}
 use Rattle.keys_lines.specs.Lines.{lines_of_all}
 use Rattle.keys_lines.specs.declared.key.Key.{Key}
 use Rattle.keys_sums.specs.Amounts.{added_by, AreNumbers}
@@ -18,19 +20,20 @@ use Rattle.totals.specs.declared.total.Total.{Total}
 use Rattle.distinct_arguments.specs.Settings.{OptionValues}
 use Rattle.distinct_arguments.specs.declared.options.Form.{Form}
 use Rattle.distinct_arguments.specs.declared.options.Form.TheVariants.{Plain, Tsv, Json}
-use Rattle.distinct_inputs.specs.Failures.{chosen_hashing}
+use Rattle.distinct_inputs.specs.Failures.{chosen_hashing, chosen_summary}
 use Rattle.distinct_inputs.specs.Images.{in_form}
 
--- the sketch of the lines of all texts, each retained hash with the sum of what its lines add, with the key and the
--- size that the options set
-abbrev pub sums_of : OptionValues → Amount → (seed : ℕ) → (texts : List (List ℕ)) → Compact (TupleEntry ℕ)
-sums_of options amount seed texts = sketch_of_sums (chosen_hashing options seed) (added_by amount) options.lg_k (lines_of_all texts)
+-- the sketch of the lines of all texts, each retained hash with the sum, the least or the greatest of what its lines add, with
+-- the key and the size that the options set
+abbrev pub sums_of : SummaryMode → OptionValues → Amount → (seed : ℕ) → (texts : List (List ℕ)) → Compact (TupleEntry ℕ)
+sums_of mode options amount seed texts = sketch_of_sums mode (chosen_hashing options seed) (added_by amount) options.lg_k (lines_of_all texts)
 
--- the image of the sums of what the lines of texts add, which is read again; each line of all texts adds a number
+-- the image of the sums of what the lines of texts add, combined as the options say, which is read again; each line of all texts
+-- adds a number
 pub record IsSumsImageOf (amount : Amount) (options : OptionValues) (seed : ℕ) (texts : List (List ℕ)) (image : List ℕ) : Type 0 where
   pub numbers : AreNumbers amount (lines_of_all texts)
-  pub written : image ≡ written_sums (sums_of options amount seed texts)
-  pub reads : ReadsSums image (seed_hash seed) (sums_of options amount seed texts)
+  pub written : image ≡ written_sums (sums_of (chosen_summary options) options amount seed texts)
+  pub reads : ReadsSums image (seed_hash seed) (sums_of (chosen_summary options) options amount seed texts)
 
 -- what `sketch` writes of these sums
 abbrev pub IsSumsText : Amount → OptionValues → (seed : ℕ) → (texts : List (List ℕ)) → List ℕ → Type 0
@@ -62,4 +65,4 @@ abbrev pub IsTotalText : (value : Option Key) → OptionValues → (seed : ℕ) 
 IsTotalText None options seed texts out = ⊥
 IsTotalText (Some field) options seed texts out =
     AreNumbers (Number field) (lines_of_all texts)
-    × (out ≡ lines_totalled_in options.form (lines_total (sums_of options (Number field) seed texts) (exact_total (Number field) texts)))
+    × (out ≡ lines_totalled_in options.form (lines_total (sums_of Sum options (Number field) seed texts) (exact_total (Number field) texts)))

@@ -2,6 +2,7 @@
 use Rattle.std.specs.Prelude.{ℕ, zero, suc, ◌≡◌, ◌++◌, nat_le, Bool, true, false, List, [], is_some, if◌then◌else◌}
 use Rattle.core_compact.specs.CompactState.{Compact}
 use Rattle.core_slots.specs.declared.entry.TupleEntry.{TupleEntry}
+use Rattle.tuple_sketches.specs.declared.numbers.SummaryMode.TheVariants.{Sum}
 use Rattle.keys_lines.specs.Keys.{hashing_of}
 use Rattle.keys_lines.specs.Lines.{lines_of_all}
 use Rattle.keys_lines.specs.declared.key.Key.{Key}
@@ -22,7 +23,7 @@ use Rattle.distinct_commands.specs.Texts.{report_by}
 -- the sketch of the lines of all texts, each retained hash with the number of its lines, with the key and the size that
 -- the options set
 abbrev pub visits_of : OptionValues → (seed : ℕ) → (texts : List (List ℕ)) → Compact (TupleEntry ℕ)
-visits_of options seed texts = sketch_of_sums (chosen_hashing options seed) one_each options.lg_k (lines_of_all texts)
+visits_of options seed texts = sketch_of_sums Sum (chosen_hashing options seed) one_each options.lg_k (lines_of_all texts)
 
 -- what is printed before all ranges
 abbrev pub ranges_head : Form → List ℕ
@@ -60,10 +61,10 @@ visits_text options s = ranges_head options.form ++ bins_text options s (greates
 -- of all their lines.
 pub record IsVisitsOfImages (options : OptionValues) (seed : ℕ) (images : List (List ℕ)) (out : List ℕ) : Type 0 where
   pub sums : Compact (TupleEntry ℕ)
-  pub united : IsUnitedSums seed options.lg_k images sums
+  pub united : IsUnitedSums Sum seed options.lg_k images sums
   pub text : out ≡ visits_text options sums
-  pub apart : (key : Key) (texts : List (List ℕ)) → AreImagesOfTexts (hashing_of key seed) one_each options.lg_k images texts →
-      out ≡ visits_text options (sketch_of_sums (hashing_of key seed) one_each options.lg_k (lines_of_all texts))
+  pub apart : (key : Key) (texts : List (List ℕ)) → AreImagesOfTexts Sum (hashing_of key seed) one_each options.lg_k images texts →
+      out ≡ visits_text options (sketch_of_sums Sum (hashing_of key seed) one_each options.lg_k (lines_of_all texts))
 
 -- what `visits` prints of texts: of their lines, or of the images of sums in them
 abbrev pub IsVisitsText : (sums : Bool) → OptionValues → (seed : ℕ) → (texts : List (List ℕ)) → List ℕ → Type 0

@@ -10,7 +10,7 @@ ghost use Rattle.distinct_arguments.specs.Settings.{OptionValues};
 ghost use Rattle.distinct_arguments.specs.declared.commands.Operator.{Operator};
 ghost use Rattle.distinct_commands.specs.Answers.{intersection_of, difference_of, IsCombinedOf, IsExpected, IsUnionOf};
 ghost use Rattle.distinct_inputs.specs.Images.{remaining_images, HasNoSketch, ReadsNext};
-ghost use Rattle.distinct_inputs.specs.Failures.{images_in, unites_sums, AreCounted, IsOfImages, IsOfCombining};
+ghost use Rattle.distinct_inputs.specs.Failures.{chosen_summary, images_in, unites_sums, AreCounted, IsOfImages, IsOfCombining};
 ghost use Rattle.distinct_inputs.specs.Failures.{IsOfEitherUnion, IsOfUniting};
 ghost use Rattle.distinct_messages.specs.Failures.{UnreadableIf};
 ghost use Rattle.distinct_inputs.specs.Failures.{ReportsNoSketch, ReportsPastUnion};
@@ -20,6 +20,7 @@ ghost use Rattle.distinct_messages.specs.declared.failure.Failure.TheVariants as
 
 use crate::commands::image_to_put;
 use crate::job::Job;
+use crate::sums::chosen_summary;
 use distinct_arguments::{Operator, Options};
 use distinct_inputs::Images;
 use distinct_messages::{Console, Failure, Remark, out_of_memory};
@@ -123,14 +124,15 @@ fn unite<S: Sources>(
 ) -> Result<United, ReadError>
     requires seeded { seed_hash seed ≢ 0 }
     ensures united { IfSome (remaining_images S.Source.remaining S.texts images.old) (λ all.
-        IfOk result (λ u. IsUnionOf options.now.sums seed options.now.lg_k all u.image.items)) }
+        IfOk result (λ u. IsUnionOf options.now.sums (chosen_summary (options_of options.now)) seed options.now.lg_k all u.image.items)) }
     ensures counted { IfSome (remaining_images S.Source.remaining S.texts images.old) (λ all.
         IfOk result (λ u. u.count ≡ length all)) }
     ensures refused { IfErr result
         (IsOfUniting options.now.sums seed (remaining_images S.Source.remaining S.texts images.old)) }
 {
     if options.sums {
-        unite_sums(alloc, seed, options.lg_k, images)
+        let mode = chosen_summary(options);
+        unite_sums(alloc, mode, seed, options.lg_k, images)
     } else {
         unite_images(alloc, seed, options.lg_k, images)
     }

@@ -49,8 +49,8 @@ const STANDARD_OUTPUT: &str = "standard output";
 /// - `NotTwo`: `minus`. If contracts know the files' bytes, only if the named files aren't two (without `--hex`) or
 ///   their images aren't two;
 /// - `NotOneEach`: `eval`;
-/// - `PastResult`: `eval --sums`. If contracts know the files' bytes, only if in some step of the expression two
-///   operands of a union or an intersection have a key whose sums are 2^64 or more together;
+/// - `PastResult`: `eval --sums`. If contracts know the files' bytes, only if sums are added and in some step of the
+///   expression two operands of a union or an intersection have a key whose sums are 2^64 or more together;
 /// - `PastUnion`: commands on images of sums, if the sum of a key is 2^64 or more, which no clause says;
 /// - `SumNeedsValue`: `sum`, if its options have no field of numbers;
 /// - `NotANumber` and `PastGreatest`: commands that sum lines, if a line has no number, or if a sum is 2^64 or more.

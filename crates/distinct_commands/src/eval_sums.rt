@@ -16,7 +16,8 @@ ghost use Rattle.distinct_commands.specs.EvalSums.{evaluated_sums_text, IsSumsEv
 ghost use Rattle.distinct_commands.specs.Failing.{IsOfResult, IsOfSumsResult};
 ghost use Rattle.distinct_commands.specs.Operands.{IsRead};
 ghost use Rattle.distinct_messages.specs.Failures.{UnreadableIf};
-ghost use Rattle.distinct_inputs.specs.Failures.{images_in, IsOfImages};
+ghost use Rattle.distinct_inputs.specs.Failures.{chosen_summary, images_in, IsOfImages};
+ghost use Rattle.tuple_sketches.specs.declared.numbers.SummaryMode.{SummaryMode};
 ghost use Rattle.distinct_inputs.specs.Images.{images_of, in_form};
 ghost use Rattle.distinct_inputs.specs.Seeds.{AreSeeded};
 ghost use Rattle.distinct_messages.specs.declared.failure.Failure.TheVariants as failure;
@@ -25,7 +26,7 @@ use crate::combine::image_failure;
 use crate::commands::in_form;
 use crate::expression::Expression;
 use crate::job::Job;
-use crate::sums::total_text;
+use crate::sums::{chosen_summary, total_text};
 use distinct_arguments::Options;
 use distinct_inputs::Images;
 use distinct_messages::{Coarser, Console, Failure, Remark, out_of_memory};
@@ -39,9 +40,9 @@ use tuple_sketches::CompactTupleSketch;
 /// The failure of an evaluation that is refused: memory, or a sum of a key that is 2^64 or more.
 fn evaluation_failure(alloc: Global, text: &str, error: Error) -> Failure
     requires { (error ≡ OutOfMemory) ⊎ (error ≡ Policy) }
-    ensures of_result { (lg_k : ℕ) (steps : List Step) (sketches : List (Compact (TupleEntry ℕ)))
-        → (error ≡ Policy → MayRefuse sum_rules lg_k (sums_values sketches) steps (Some []))
-        → IsOfResult lg_k text.now steps sketches result }
+    ensures of_result { (mode : SummaryMode) (lg_k : ℕ) (steps : List Step) (sketches : List (Compact (TupleEntry ℕ)))
+        → (error ≡ Policy → MayRefuse (sum_rules mode) lg_k (sums_values sketches) steps (Some []))
+        → IsOfResult mode lg_k text.now steps sketches result }
     ensures fallible { (may_fail : Bool) → UnreadableIf may_fail result }
 {
     if error.kind() != ErrorKind::Policy {
@@ -53,8 +54,8 @@ fn evaluation_failure(alloc: Global, text: &str, error: Error) -> Failure
     }
 }
 
-/// The result of an expression over one sketch of sums per name, each of this seed. It fails if memory is refused, or
-/// if the sum of a key would be 2^64 or more.
+/// The result of an expression over one sketch of sums per name, each of this seed. The sums of a key are combined as
+/// the options say. It fails if memory is refused, or if a sum that is added would be 2^64 or more.
 fn result_of(
     alloc: Global,
     options: &Options<'_>,
@@ -70,14 +71,16 @@ fn result_of(
         expression.now.steps.items)
         → IfOk result (λ s.
         s
-        ≡ ordered_sketch (sums_value options.now.lg_k (sums_values sketches.now) spelled.tree)
+        ≡ ordered_sketch (sums_value (chosen_summary (options_of options.now)) options.now.lg_k (sums_values sketches.now) spelled.tree)
         (seed_hash seed)) }
     ensures failed { IfErr result
-        (IsOfResult options.now.lg_k expression.now.text.now expression.now.steps.items sketches.now) }
+        (IsOfResult (chosen_summary (options_of options.now)) options.now.lg_k expression.now.text.now
+        expression.now.steps.items sketches.now) }
     ensures fallible { (may_fail : Bool) → IfErr result (UnreadableIf may_fail) }
 {
     let steps = expression.steps.as_slice();
-    match evaluate_sums(alloc, seed, options.lg_k, steps, sketches) {
+    let mode = chosen_summary(options);
+    match evaluate_sums(alloc, mode, seed, options.lg_k, steps, sketches) {
         Ok(sketch) => Ok(sketch),
         Err(error) => Err(evaluation_failure(alloc, expression.text, error)),
     }

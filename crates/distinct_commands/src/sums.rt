@@ -1,4 +1,5 @@
-//! Sums of lines by their keys: their images, and the totals that `sum` prints of them.
+//! Sums of lines by their keys, or the least or the greatest numbers: their images, and the totals that `sum` prints of
+//! them.
 ghost use Rattle.std.specs.Prelude.{◌≡◌, ◌≢◌, ℕ, List, Option, IfOk, IfErr, IfSome, string_bytes, Bool};
 ghost use Rattle.sketch_base.specs.Seed.{seed_hash};
 ghost use Rattle.keys_lines.specs.Lines.{lines_of_all};
@@ -9,14 +10,16 @@ ghost use Rattle.keys_sums.specs.declared.addends.Amount.TheVariants.{One};
 ghost use Rattle.distinct_messages.specs.declared.failure.Failure.TheVariants as failure;
 ghost use Rattle.distinct_arguments.specs.Faults.{options_of};
 ghost use Rattle.distinct_arguments.specs.Settings.{OptionValues, chosen_value};
-ghost use Rattle.distinct_inputs.specs.Failures.{chosen_amount, HasGreatSum, HasNoNumberIn, IsOfSums, IsOfTotal};
+ghost use Rattle.distinct_inputs.specs.Failures.{chosen_amount, chosen_summary, HasGreatSum, HasNoNumberIn};
+ghost use Rattle.distinct_inputs.specs.Failures.{IsOfSums, IsOfTotal};
 ghost use Rattle.distinct_messages.specs.Failures.{UnreadableIf};
 ghost use Rattle.totals.specs.Totals.{lines_total};
+ghost use Rattle.tuple_sketches.specs.declared.numbers.SummaryMode.{SummaryMode};
 ghost use Rattle.distinct_commands.specs.Sums.{exact_total, lines_totalled_in, sums_of, total_text, IsSumsText, IsTotalText};
 
 use crate::commands::in_form;
 use crate::job::Job;
-use distinct_arguments::{Fault, Form, Options};
+use distinct_arguments::{Fault, Form, Mode, Options};
 use distinct_inputs::Inputs;
 use distinct_messages::{Failure, out_of_memory};
 use keys_lines::Hashing;
@@ -27,7 +30,7 @@ use totals::{
     lines_total, lines_total_json_line, lines_total_line, lines_total_tsv_head,
     lines_total_tsv_row, total_json_line, total_line, total_of, total_tsv_head, total_tsv_row,
 };
-use tuple_sketches::CompactTupleSketch;
+use tuple_sketches::{CompactTupleSketch, SummaryMode};
 
 /// What each line adds to the sum of its key, if `sketch` writes sums.
 pub fn chosen_amount(options: &Options<'_>) -> Option<Amount>
@@ -42,11 +45,23 @@ pub fn chosen_amount(options: &Options<'_>) -> Option<Amount>
     }
 }
 
+/// How the numbers of a key are combined.
+pub fn chosen_summary(options: &Options<'_>) -> SummaryMode
+    ensures { result ≡ chosen_summary (options_of options.now) }
+{
+    match options.mode() {
+        Mode::Sum => SummaryMode::Sum,
+        Mode::Min => SummaryMode::Min,
+        Mode::Max => SummaryMode::Max,
+    }
+}
+
 /// The failure for a line of the source that was opened last, with which the sum of its key would be 2^64 or more.
 fn overflow_failure<S: Sources>(alloc: Global, inputs: &Inputs<'_, S>, line: u64) -> Failure
-    ensures of_sums { (options : OptionValues) (seed : ℕ) (amount : Amount) (texts : Option (List (List ℕ)))
-        → HasGreatSum options seed amount texts
-        → IsOfSums options seed amount texts result }
+    ensures of_sums { (mode : SummaryMode) (options : OptionValues) (seed : ℕ) (amount : Amount)
+        (texts : Option (List (List ℕ)))
+        → HasGreatSum mode options seed amount texts
+        → IsOfSums mode options seed amount texts result }
     ensures fallible { (may_fail : Bool) → UnreadableIf may_fail result }
 {
     match String::from_str(alloc, inputs.name()) {
@@ -57,10 +72,11 @@ fn overflow_failure<S: Sources>(alloc: Global, inputs: &Inputs<'_, S>, line: u64
 
 /// The failure for a line of the source that was opened last, which has no number to add.
 fn number_failure<S: Sources>(alloc: Global, inputs: &Inputs<'_, S>, line: u64) -> Failure
-    ensures of_sums { (options : OptionValues) (seed : ℕ) (amount : Amount) (texts : Option (List (List ℕ)))
+    ensures of_sums { (mode : SummaryMode) (options : OptionValues) (seed : ℕ) (amount : Amount)
+        (texts : Option (List (List ℕ)))
         → amount ≢ One
         → HasNoNumberIn amount line texts
-        → IsOfSums options seed amount texts result }
+        → IsOfSums mode options seed amount texts result }
     ensures fallible { (may_fail : Bool) → UnreadableIf may_fail result }
 {
     match String::from_str(alloc, inputs.name()) {
@@ -122,18 +138,18 @@ fn lines_total_text(alloc: Global, form: Form, sums: &SumsOfLines) -> Result<Str
 }
 
 impl<'a, S: Sources + Drop> Job<'a, S> {
-    /// The sketch of the lines of all sources, each key with the sum of what its lines add, and the total. It fails if memory is
-    /// refused, a source can't be read, a sum would be 2^64 or more, or a line adds no number.
-    pub fn sums_of(self, amount: Amount) -> Result<SumsOfLines, Failure>
+    /// The sketch of the lines of all sources, each key with what its lines add, combined by a mode, and the total. It
+    /// fails if memory is refused, a source can't be read, a sum would be 2^64 or more, or a line adds no number.
+    pub fn sums_of(self, mode: SummaryMode, amount: Amount) -> Result<SumsOfLines, Failure>
         requires seeded { seed_hash self.seed ≢ 0 }
         ensures sums { IfSome (S.texts self.entry.inputs.sources) (λ texts.
-            IfOk result (λ s. s.sketch ≡ sums_of (options_of self.entry.options.now) amount self.entry.seed texts)) }
+            IfOk result (λ s. s.sketch ≡ sums_of mode (options_of self.entry.options.now) amount self.entry.seed texts)) }
         ensures total { IfSome (S.texts self.entry.inputs.sources) (λ texts.
             IfOk result (λ s. s.total ≡ exact_total amount texts)) }
         ensures numbers { IfSome (S.texts self.entry.inputs.sources) (λ texts.
             IfOk result (λ _. AreNumbers amount (lines_of_all texts))) }
         ensures failed { IfErr result
-            (IsOfSums (options_of self.entry.options.now) self.entry.seed amount
+            (IsOfSums mode (options_of self.entry.options.now) self.entry.seed amount
             (S.texts self.entry.inputs.sources)) }
         ensures fallible { IfErr result (UnreadableIf S.may_fail) }
     {
@@ -143,7 +159,7 @@ impl<'a, S: Sources + Drop> Job<'a, S> {
             key: options.key(),
             seed,
         };
-        match sum_sources(alloc, hashing, amount, options.lg_k, &mut inputs) {
+        match sum_sources(alloc, mode, hashing, amount, options.lg_k, &mut inputs) {
             Ok(sums) => Ok(sums),
             Err(SumError::Failed(error)) => Err(inputs.read_failure(alloc, error)),
             Err(SumError::PastGreatest(line)) => Err(overflow_failure(alloc, &inputs, line)),
@@ -152,19 +168,20 @@ impl<'a, S: Sources + Drop> Job<'a, S> {
         }
     }
 
-    /// What `sketch` writes of the sums of what the lines of all sources add. It fails if memory is refused, a source
+    /// What `sketch` writes of what the lines of all sources add, combined as the options say. It fails if memory is refused, a source
     /// can't be read, a sum would be 2^64 or more, or a line adds no number.
     pub fn write_sums(self, amount: Amount) -> Result<Vec<u8>, Failure>
         requires seeded { seed_hash self.seed ≢ 0 }
         ensures written { IfSome (S.texts self.entry.inputs.sources) (λ texts.
             IfOk result (λ v. IsSumsText amount (options_of self.entry.options.now) self.entry.seed texts v.items)) }
         ensures failed { IfErr result
-            (IsOfSums (options_of self.entry.options.now) self.entry.seed amount
-            (S.texts self.entry.inputs.sources)) }
+            (IsOfSums (chosen_summary (options_of self.entry.options.now)) (options_of self.entry.options.now)
+            self.entry.seed amount (S.texts self.entry.inputs.sources)) }
         ensures fallible { IfErr result (UnreadableIf S.may_fail) }
     {
         let (alloc, options, seed) = (self.alloc, self.options, self.seed);
-        let sums = self.sums_of(amount)?;
+        let mode = chosen_summary(options);
+        let sums = self.sums_of(mode, amount)?;
         let image = image_of_sums(&sums.sketch, seed)?;
         in_form(alloc, options.hex, image)
     }
@@ -183,7 +200,7 @@ impl<'a, S: Sources + Drop> Job<'a, S> {
         let Some(field) = options.value() else {
             return Err(Failure::Arguments(Fault::SumNeedsValue));
         };
-        let sums = self.sums_of(Amount::Number(field))?;
+        let sums = self.sums_of(SummaryMode::Sum, Amount::Number(field))?;
         let text = lines_total_text(alloc, options.form, &sums)?;
         Ok(text.into_bytes())
     }

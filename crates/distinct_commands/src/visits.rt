@@ -4,6 +4,7 @@ ghost use Rattle.sketch_base.specs.Seed.{seed_hash};
 ghost use Rattle.keys_sums.specs.declared.addends.Amount.TheVariants.{One};
 ghost use Rattle.distinct_arguments.specs.Faults.{options_of};
 ghost use Rattle.keys_sums.specs.Unions.{IsUnitedSums, AreSumsOfTexts};
+ghost use Rattle.tuple_sketches.specs.declared.numbers.SummaryMode.TheVariants.{Sum};
 ghost use Rattle.distinct_inputs.specs.Failures.{images_in, IsOfEitherUnion, IsOfSums, IsOfUniting, IsOfVisits};
 ghost use Rattle.distinct_messages.specs.Failures.{UnreadableIf};
 ghost use Rattle.distinct_inputs.specs.Images.{images_of, remaining_images};
@@ -22,7 +23,7 @@ use keys_sums::{
     Amount, BINS, UnionOfSums, count_in, greatest_of, greatest_sum, least_of, union_of_sums,
 };
 use std::alloc::{AllocError, Global};
-use tuple_sketches::CompactTupleSketch;
+use tuple_sketches::{CompactTupleSketch, SummaryMode};
 
 /// What is printed before all ranges.
 fn ranges_head(alloc: Global, form: Form) -> Result<String, AllocError>
@@ -45,8 +46,6 @@ fn bin_text(
     requires { bin < 65 }
     ensures { IfOk result (λ text. string_bytes text ≡ bin_text (options_of options.now) visits.now bin) }
 {
-    // By its contract the sketch's theta is in range.
-    let _ = visits.num_retained();
     let least = least_of(bin);
     let greatest = greatest_of(bin);
     let report = report_of_part(
@@ -109,12 +108,12 @@ fn united_visits<S: Sources>(
 ) -> Result<UnionOfSums, ReadError>
     requires seeded { seed_hash seed ≢ 0 }
     ensures united { IfSome (remaining_images S.Source.remaining S.texts images.old) (λ all.
-        IfOk result (λ u. IsUnitedSums seed options.now.lg_k all u.sketch)) }
+        IfOk result (λ u. IsUnitedSums Sum seed options.now.lg_k all u.sketch)) }
     ensures apart { IfSome (remaining_images S.Source.remaining S.texts images.old) (λ all.
-        IfOk result (λ u. AreSumsOfTexts seed options.now.lg_k all u.sketch)) }
+        IfOk result (λ u. AreSumsOfTexts Sum seed options.now.lg_k all u.sketch)) }
     ensures refused { IfErr result (IsOfUniting true seed (remaining_images S.Source.remaining S.texts images.old)) }
 {
-    union_of_sums(alloc, seed, options.lg_k, images)
+    union_of_sums(alloc, SummaryMode::Sum, seed, options.lg_k, images)
 }
 
 impl<'a, S: Sources + Drop> Job<'a, S> {
@@ -125,11 +124,11 @@ impl<'a, S: Sources + Drop> Job<'a, S> {
         ensures printed { IfSome (S.texts self.entry.inputs.sources) (λ texts. IfOk result (λ v.
             v.items ≡ visits_text (options_of self.entry.options.now) (visits_of (options_of self.entry.options.now) self.entry.seed texts))) }
         ensures failed { IfErr result
-            (IsOfSums (options_of self.entry.options.now) self.entry.seed One (S.texts self.entry.inputs.sources)) }
+            (IsOfSums Sum (options_of self.entry.options.now) self.entry.seed One (S.texts self.entry.inputs.sources)) }
         ensures fallible { IfErr result (UnreadableIf S.may_fail) }
     {
         let (alloc, options) = (self.alloc, self.options);
-        let visits = self.sums_of(Amount::One)?;
+        let visits = self.sums_of(SummaryMode::Sum, Amount::One)?;
         let text = visits_text(alloc, options, &visits.sketch)?;
         Ok(text.into_bytes())
     }

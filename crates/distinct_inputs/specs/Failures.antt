@@ -12,12 +12,16 @@ use Rattle.core_images.specs.declared.flaw.Flaw.TheVariants.{Damaged}
 use Rattle.keys_sketches.specs.declared.header.Flaw.TheVariants.{Image}
 use Rattle.keys_sketches.specs.declared.sketching.ReadError.{ReadError}
 use Rattle.keys_sketches.specs.declared.sketching.ReadError.TheVariants.{Refused, Failed}
+use Rattle.tuple_sketches.specs.declared.numbers.SummaryMode.{SummaryMode}
+use Rattle.tuple_sketches.specs.declared.numbers.SummaryMode.TheVariants.{Sum, Min, Max}
 use Rattle.keys_sums.specs.Amounts.{added_by}
 use Rattle.keys_sums.specs.Refusals.{HasNoNumberAt, IsPast}
 use Rattle.keys_sums.specs.declared.addends.Amount.{Amount}
 use Rattle.keys_sums.specs.declared.addends.Amount.TheVariants.{One, Number}
 use Rattle.distinct_arguments.specs.declared.fault.Fault.TheVariants.{SumNeedsValue, ZeroSeed}
-use Rattle.distinct_arguments.specs.Settings.{chosen_key, chosen_value}
+use Rattle.distinct_arguments.specs.Settings.{chosen_key, chosen_mode, chosen_value}
+use Rattle.distinct_arguments.specs.declared.options.Mode.{Mode}
+use Rattle.distinct_arguments.specs.declared.options.Mode.TheVariants as mode
 use Rattle.std.specs.declared.io.Error.{Error}
 use Rattle.distinct_arguments.specs.Settings.{OptionValues, SeedValue, seed_number, seed_file}
 use Rattle.distinct_inputs.specs.Images.{images_of, HasNoSketch}
@@ -84,13 +88,22 @@ ReportsFlawed name number flaw _ = ⊥
 abbrev pub chosen_amount : OptionValues → Option Amount
 chosen_amount options = if options.visits then Some One else option_map (λ field. Number field) (chosen_value options)
 
+-- how the numbers of a key are combined
+abbrev pub summary_mode : Mode → SummaryMode
+summary_mode mode.Sum = Sum
+summary_mode mode.Min = Min
+summary_mode mode.Max = Max
+
+abbrev pub chosen_summary : OptionValues → SummaryMode
+chosen_summary options = summary_mode (chosen_mode options)
+
 -- how lines are hashed: by the field of the number that options choose, the first being 1, or the whole line
 abbrev pub chosen_hashing : OptionValues → (seed : ℕ) → Hashing
 chosen_hashing options seed = record { key = chosen_key options; seed = seed }
 
--- the sum of what the lines of some hash add in texts is 2^64 or more, if the texts are known
-abbrev pub HasGreatSum : OptionValues → (seed : ℕ) → Amount → (texts : Option (List (List ℕ))) → Type 0
-HasGreatSum options seed amount texts = IfSome texts (λ all. IsPast (chosen_hashing options seed) (added_by amount) (lines_of_all all))
+-- if the texts are known, what the lines of a hash add in them is added, and for some hash that is 2^64 or more
+abbrev pub HasGreatSum : SummaryMode → OptionValues → (seed : ℕ) → Amount → (texts : Option (List (List ℕ))) → Type 0
+HasGreatSum mode options seed amount texts = IfSome texts (λ all. IsPast mode (chosen_hashing options seed) (added_by amount) (lines_of_all all))
 
 -- memory was refused, or a file can't be read
 abbrev pub IsOfReading : Failure → Type 0
@@ -123,15 +136,15 @@ abbrev pub HasNoNumberIn : Amount → (line : ℕ) → (texts : Option (List (Li
 HasNoNumberIn amount line texts = IfSome texts (HasFault (λ text. HasNoNumberAt amount line (lines_of text)))
 
 -- lines are not summed: memory was refused, a file can't be read, a sum is 2^64 or more, or a line has no number to add
-abbrev pub IsOfSums : OptionValues → (seed : ℕ) → Amount → (texts : Option (List (List ℕ))) → Failure → Type 0
-IsOfSums options seed amount texts (PastGreatest name line) = HasGreatSum options seed amount texts
-IsOfSums options seed amount texts (NotANumber name line) = (amount ≢ One) × HasNoNumberIn amount line texts
-IsOfSums options seed amount texts failure = IsOfReading failure
+abbrev pub IsOfSums : SummaryMode → OptionValues → (seed : ℕ) → Amount → (texts : Option (List (List ℕ))) → Failure → Type 0
+IsOfSums mode options seed amount texts (PastGreatest name line) = HasGreatSum mode options seed amount texts
+IsOfSums mode options seed amount texts (NotANumber name line) = (amount ≢ One) × HasNoNumberIn amount line texts
+IsOfSums mode options seed amount texts failure = IsOfReading failure
 
 -- lines are not sketched, or not summed if they add something
 abbrev pub IsOfChosen : Option Amount → OptionValues → (seed : ℕ) → (texts : Option (List (List ℕ))) → Failure → Type 0
 IsOfChosen None options seed texts failure = IsOfReading failure
-IsOfChosen (Some amount) options seed texts failure = IsOfSums options seed amount texts failure
+IsOfChosen (Some amount) options seed texts failure = IsOfSums (chosen_summary options) options seed amount texts failure
 
 abbrev pub IsOfSketch : OptionValues → (seed : ℕ) → (texts : Option (List (List ℕ))) → Failure → Type 0
 IsOfSketch options seed texts failure = IsOfChosen (chosen_amount options) options seed texts failure
@@ -144,7 +157,7 @@ LacksValue options failure = ⊥
 -- .. or lines are not summed by the field that has their numbers
 abbrev pub IsOfTotalOf : (value : Option Key) → OptionValues → (seed : ℕ) → (texts : Option (List (List ℕ))) → Failure → Type 0
 IsOfTotalOf None options seed texts failure = LacksValue options failure
-IsOfTotalOf (Some field) options seed texts failure = IsOfSums options seed (Number field) texts failure
+IsOfTotalOf (Some field) options seed texts failure = IsOfSums Sum options seed (Number field) texts failure
 
 abbrev pub IsOfTotal : OptionValues → (seed : ℕ) → (texts : Option (List (List ℕ))) → Failure → Type 0
 IsOfTotal options seed texts failure = IsOfTotalOf (chosen_value options) options seed texts failure
@@ -196,7 +209,7 @@ IsOfEitherUnion options seed images failure = IsOfUnion options.expected options
 
 -- `visits` fails: lines, or images of sums, are at fault
 abbrev pub IsOfVisits : OptionValues → (seed : ℕ) → (texts : Option (List (List ℕ))) → Failure → Type 0
-IsOfVisits options seed texts (PastGreatest name line) = (options.sums ≡ false) × HasGreatSum options seed One texts
+IsOfVisits options seed texts (PastGreatest name line) = (options.sums ≡ false) × HasGreatSum Sum options seed One texts
 IsOfVisits options seed texts failure = IsOfEitherUnion options seed (images_in options.sums options texts) failure
 
 -- a union of images, of sums or of theta sketches, is refused for memory, for an image that is none, or, if they are

@@ -245,9 +245,17 @@ impl fmt::Display for Defect<'_> {
                 f,
                 "has bytes after its image: a file has one image, or with --hex one per line"
             ),
+            Flaw::Image(ImageFlaw::Malformed) => write!(
+                f,
+                "is damaged (its preamble is not valid): copy or make it again"
+            ),
+            Flaw::Image(ImageFlaw::Theta) => write!(
+                f,
+                "is damaged (its theta is not from 1 to 2^63 - 1): copy or make it again"
+            ),
             Flaw::Image(ImageFlaw::Damaged) => write!(
                 f,
-                "is damaged (its preamble, theta or hashes are not valid): copy or make it again"
+                "is damaged (its hashes are not valid): copy or make it again"
             ),
         }
     }
@@ -275,9 +283,13 @@ impl fmt::Display for SumsDefect<'_> {
                 f,
                 "is of version {version}; versions 1 and 3 are read: write it in version 3"
             ),
+            Flaw::Image(ImageFlaw::Malformed) => write!(
+                f,
+                "is damaged (its preamble or sketch type is not valid): copy or make it again"
+            ),
             Flaw::Image(ImageFlaw::Damaged) => write!(
                 f,
-                "is damaged (its preamble, sketch type, theta or hashes are not valid): copy or make it again"
+                "is damaged (its hashes or sums are not valid): copy or make it again"
             ),
             flaw => write!(f, "{}", Defect(flaw)),
         }

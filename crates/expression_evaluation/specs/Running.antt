@@ -14,6 +14,7 @@ use Rattle.core_laws.specs.declared.TheConstants.{MAX_THETA}
 use Rattle.core_operators.specs.Union.{IsMergeRefused}
 use Rattle.core_slots.specs.Entry.{tuple_key}
 use Rattle.core_slots.specs.declared.entry.TupleEntry.{TupleEntry}
+use Rattle.tuple_sketches.specs.declared.numbers.SummaryMode.{SummaryMode}
 use Rattle.expression_text.specs.declared.operator.Operator.{Operator}
 use Rattle.expression_text.specs.declared.operator.Operator.TheVariants.{Union, Intersection, Difference}
 use Rattle.expression_text.specs.declared.operator.Step.{Step}
@@ -98,8 +99,8 @@ refusal_by rules read seed lg_k steps sketches =
 abbrev pub evaluation_refusal : (seed lg_k : ℕ) → List Step → List (Compact ℕ) → Option ErrorKind
 evaluation_refusal seed lg_k steps sketches = refusal_by hash_rules (λ s. s) seed lg_k steps sketches
 
-abbrev pub sums_refusal : (seed lg_k : ℕ) → List Step → List (Compact (TupleEntry ℕ)) → Option ErrorKind
-sums_refusal seed lg_k steps sketches = refusal_by sum_rules (λ s. s) seed lg_k steps sketches
+abbrev pub sums_refusal : SummaryMode → (seed lg_k : ℕ) → List Step → List (Compact (TupleEntry ℕ)) → Option ErrorKind
+sums_refusal mode seed lg_k steps sketches = refusal_by (sum_rules mode) (λ s. s) seed lg_k steps sketches
 
 -- merging the entries of two values is refused at a key that both have below the lesser theta
 abbrev pub AreRefused : {X : Type 0} → Rules X → Sketch X → Sketch X → Type 0

@@ -1,5 +1,5 @@
 -- The values of expressions over sketches of any kind, and the same expressions of whole maps.
-use Rattle.std.specs.Prelude.{ℕ, ◌+◌, ◌^◌, Bool, nat_le, List, [], ◌∷◌, get_or}
+use Rattle.std.specs.Prelude.{ℕ, ◌+◌, ◌^◌, Bool, false, nat_le, List, [], ◌∷◌, get_or}
 use Rattle.core_laws.specs.declared.TheConstants.{MAX_THETA}
 use Rattle.core_laws.specs.Entries.{hash_key, first_hash}
 use Rattle.core_laws.specs.Folds.{never}
@@ -7,6 +7,9 @@ use Rattle.core_laws.specs.Operators.{joined, common, lacking, unite, meet, minu
 use Rattle.core_laws.specs.Values.{Sketch, Empty}
 use Rattle.core_slots.specs.Entry.{tuple_key, with_summary}
 use Rattle.core_slots.specs.declared.entry.TupleEntry.{TupleEntry}
+use Rattle.tuple_sketches.specs.Numbers.{merged_number}
+use Rattle.tuple_sketches.specs.declared.numbers.SummaryMode.{SummaryMode}
+use Rattle.tuple_sketches.specs.declared.numbers.SummaryMode.TheVariants.{Sum}
 use Rattle.expression_text.specs.declared.operator.Operator.{Operator}
 use Rattle.expression_text.specs.declared.operator.Operator.TheVariants.{Union, Intersection, Difference}
 use Rattle.expression_text.specs.Expressions.{Expression, Named, Grouped, Combined}
@@ -21,17 +24,18 @@ pub record Rules (X : Type 0) : Type 0 where
 abbrev pub hash_rules : Rules ℕ
 hash_rules = record { key = hash_key; merges = first_hash; refuses = never }
 
--- an entry to whose sum that of another is added
-abbrev pub sum_added : TupleEntry ℕ → TupleEntry ℕ → TupleEntry ℕ
-sum_added x y = with_summary x (x.summary + y.summary)
+-- an entry with whose sum that of another is merged: they are added, or the less or the greater is kept
+abbrev pub sum_merged : SummaryMode → TupleEntry ℕ → TupleEntry ℕ → TupleEntry ℕ
+sum_merged mode x y = with_summary x (merged_number mode x.summary y.summary)
 
--- two sums are too great together
-abbrev pub is_too_great : TupleEntry ℕ → TupleEntry ℕ → Bool
-is_too_great x y = nat_le (2 ^ 64) (x.summary + y.summary)
+-- two sums that are added are too great together
+abbrev pub is_too_great : SummaryMode → TupleEntry ℕ → TupleEntry ℕ → Bool
+is_too_great Sum x y = nat_le (2 ^ 64) (x.summary + y.summary)
+is_too_great _ x y = false
 
--- sums: the sums of a key are added, and a sum of 2^64 or more is refused
-abbrev pub sum_rules : Rules (TupleEntry ℕ)
-sum_rules = record { key = tuple_key; merges = sum_added; refuses = is_too_great }
+-- sums: the sums of a key are merged by a mode, and a sum of 2^64 or more is refused
+abbrev pub sum_rules : SummaryMode → Rules (TupleEntry ℕ)
+sum_rules mode = record { key = tuple_key; merges = sum_merged mode; refuses = is_too_great mode }
 
 -- the value of two applied values, in a union with 2^lg_k nominal entries
 abbrev pub applied : {X : Type 0} → Rules X → (lg_k : ℕ) → Operator → Sketch X → Sketch X → Sketch X
@@ -66,8 +70,8 @@ abbrev pub set_of : List (List ℕ) → Expression → List ℕ
 set_of sets e = expression_whole hash_rules sets e
 
 -- the value of an expression over sketches of sums, and the sums of one over whole streams, by their keys
-abbrev pub sums_value : (lg_k : ℕ) → List (Sketch (TupleEntry ℕ)) → Expression → Sketch (TupleEntry ℕ)
-sums_value lg_k values e = expression_value sum_rules lg_k values e
+abbrev pub sums_value : SummaryMode → (lg_k : ℕ) → List (Sketch (TupleEntry ℕ)) → Expression → Sketch (TupleEntry ℕ)
+sums_value mode lg_k values e = expression_value (sum_rules mode) lg_k values e
 
-abbrev pub whole_sums_in : List (List (TupleEntry ℕ)) → Expression → List (TupleEntry ℕ)
-whole_sums_in wholes e = expression_whole sum_rules wholes e
+abbrev pub whole_sums_in : SummaryMode → List (List (TupleEntry ℕ)) → Expression → List (TupleEntry ℕ)
+whole_sums_in mode wholes e = expression_whole (sum_rules mode) wholes e

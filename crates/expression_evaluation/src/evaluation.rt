@@ -57,14 +57,14 @@ fn combine_last<F: SetFamily<A, B>, A: Allocator, B: Allocator>(
     stack: &mut Vec<F::Sketch, A>,
 ) -> Result<(), Error>
     requires settings { settings_refusal lg_k MAX_THETA seed ≡ None }
-    requires ordered { AreOrderedSketches F.rules F.listed (seed_hash seed) stack.old.items }
-    ensures ordered { OnOk result (AreOrderedSketches F.rules F.listed (seed_hash seed) stack.new.items) }
+    requires ordered { AreOrderedSketches (F.rules family.now) F.listed (seed_hash seed) stack.old.items }
+    ensures ordered { OnOk result (AreOrderedSketches (F.rules family.now) F.listed (seed_hash seed) stack.new.items) }
     ensures ran { OnOk result (
-        after_step F.rules lg_k [] (Combine operator) (values_onto F.rules F.listed stack.old.items [])
-        ≡ Some (values_onto F.rules F.listed stack.new.items [])) }
+        after_step (F.rules family.now) lg_k [] (Combine operator) (values_onto (F.rules family.now) F.listed stack.old.items [])
+        ≡ Some (values_onto (F.rules family.now) F.listed stack.new.items [])) }
     ensures refused { IfErr result (
-        IsStepRefused (after_step F.rules lg_k [] (Combine operator) (values_onto F.rules F.listed stack.old.items []))
-        (MayRefuseStep F.rules (Combine operator) (values_onto F.rules F.listed stack.old.items []))) }
+        IsStepRefused (after_step (F.rules family.now) lg_k [] (Combine operator) (values_onto (F.rules family.now) F.listed stack.old.items []))
+        (MayRefuseStep (F.rules family.now) (Combine operator) (values_onto (F.rules family.now) F.listed stack.old.items []))) }
 {
     let Some(second) = stack.pop() else {
         return Err(Error::new(ErrorKind::InvalidArgument));
@@ -89,16 +89,16 @@ fn run_step<F: SetFamily<A, B>, A: Allocator, B: Allocator>(
 ) -> Result<(), Error>
     requires settings { settings_refusal lg_k MAX_THETA seed ≡ None }
     requires accepted { are_accepted F.named (seed_hash seed) sketches.now ≡ true }
-    requires ordered { AreOrderedSketches F.rules F.listed (seed_hash seed) stack.old.items }
-    ensures ordered { OnOk result (AreOrderedSketches F.rules F.listed (seed_hash seed) stack.new.items) }
+    requires ordered { AreOrderedSketches (F.rules family.now) F.listed (seed_hash seed) stack.old.items }
+    ensures ordered { OnOk result (AreOrderedSketches (F.rules family.now) F.listed (seed_hash seed) stack.new.items) }
     ensures ran { OnOk result (
-        after_step F.rules lg_k (values_by F.rules F.named sketches.now) step
-        (values_onto F.rules F.listed stack.old.items [])
-        ≡ Some (values_onto F.rules F.listed stack.new.items [])) }
+        after_step (F.rules family.now) lg_k (values_by (F.rules family.now) F.named sketches.now) step
+        (values_onto (F.rules family.now) F.listed stack.old.items [])
+        ≡ Some (values_onto (F.rules family.now) F.listed stack.new.items [])) }
     ensures refused { IfErr result (IsStepRefused (
-        after_step F.rules lg_k (values_by F.rules F.named sketches.now) step
-        (values_onto F.rules F.listed stack.old.items []))
-        (MayRefuseStep F.rules step (values_onto F.rules F.listed stack.old.items []))) }
+        after_step (F.rules family.now) lg_k (values_by (F.rules family.now) F.named sketches.now) step
+        (values_onto (F.rules family.now) F.listed stack.old.items []))
+        (MayRefuseStep (F.rules family.now) step (values_onto (F.rules family.now) F.listed stack.old.items []))) }
 {
     match step {
         Step::Operand(index) => {
@@ -132,16 +132,16 @@ pub fn evaluate_in<F: SetFamily<A, B>, A: Allocator + Clone, B: Allocator>(
         → steps.now ≡ postfix e
         → HasIndicesBelow (length sketches.now) e
         → IfOk result (λ s.
-        F.listed s ≡ ordered_sketch (expression_value F.rules lg_k (values_by F.rules F.named sketches.now) e) (seed_hash seed)) }
+        F.listed s ≡ ordered_sketch (expression_value (F.rules family.now) lg_k (values_by (F.rules family.now) F.named sketches.now) e) (seed_hash seed)) }
     ensures whole { (e : Expression) (wholes : List (List F.Entry))
         → steps.now ≡ postfix e
-        → AreSamples (F.rules).key (values_by F.rules F.named sketches.now) wholes
+        → AreSamples (F.rules family.now).key (values_by (F.rules family.now) F.named sketches.now) wholes
         → HasIndicesBelow (length sketches.now) e
-        → IfOk result (λ s. IsSample (F.rules).key (value_by F.rules F.listed s) (expression_whole F.rules wholes e)) }
-    ensures accepted { OnOk result (refusal_by F.rules F.named seed lg_k steps.now sketches.now ≡ None) }
+        → IfOk result (λ s. IsSample (F.rules family.now).key (value_by (F.rules family.now) F.listed s) (expression_whole (F.rules family.now) wholes e)) }
+    ensures accepted { OnOk result (refusal_by (F.rules family.now) F.named seed lg_k steps.now sketches.now ≡ None) }
     ensures refused { IfErr result (
-        IsEvaluationError (refusal_by F.rules F.named seed lg_k steps.now sketches.now)
-        (MayRefuse F.rules lg_k (values_by F.rules F.named sketches.now) steps.now (Some []))) }
+        IsEvaluationError (refusal_by (F.rules family.now) F.named seed lg_k steps.now sketches.now)
+        (MayRefuse (F.rules family.now) lg_k (values_by (F.rules family.now) F.named sketches.now) steps.now (Some []))) }
 {
     let hash = check_settings(lg_k, seed)?;
     if !are_accepted(family, hash, sketches) {

@@ -19,7 +19,7 @@ use expression_text::Step;
 use sketch_base::Error;
 use std::alloc::Allocator;
 use theta_sketches::CompactThetaSketch;
-use tuple_sketches::CompactTupleSketch;
+use tuple_sketches::{CompactTupleSketch, SummaryMode};
 
 /// Evaluates the steps of an expression over one sketch per name, in postfix order. The result is ordered. A union
 /// retains at most 2^`lg_k` hashes. The result of a name alone is its sketch, with all its hashes.
@@ -53,7 +53,8 @@ pub fn evaluate<A: Allocator + Clone + Drop, B: Allocator>(
 }
 
 /// Evaluates the steps of an expression over one sketch of sums per name, in postfix order. In a union and an
-/// intersection the sums of a key are added; a difference keeps the sums of its first operand. The result is ordered.
+/// intersection the sums of a key are merged by a mode: added, or the less or the greater is kept; a difference keeps
+/// the sums of its first operand. The result is ordered.
 /// A union retains at most 2^`lg_k` keys. The result of a name alone is its sketch, with all its keys.
 ///
 /// If each sketch retains exactly the keys of its whole stream below its theta, with their sums, the result retains
@@ -61,10 +62,11 @@ pub fn evaluate<A: Allocator + Clone + Drop, B: Allocator>(
 ///
 /// Refused with `InvalidArgument` if `lg_k` isn't from 4 to 26 or the seed's hash is 0; if a sketch that isn't empty
 /// is of another seed, even if no step takes it; and if the steps aren't those of one expression over these sketches.
-/// Refused with `OutOfMemory`; and with `Policy` only if the sums of some key that both operands of a union or an
-/// intersection have are 2^64 or more together. So no sum in a result has wrapped.
+/// Refused with `OutOfMemory`; and with `Policy` only in the mode `Sum`, if the sums of some key that both operands of
+/// a union or an intersection have are 2^64 or more together. So no sum in a result has wrapped.
 pub fn evaluate_sums<A: Allocator + Clone + Drop, B: Allocator>(
     alloc: A,
+    mode: SummaryMode,
     seed: u64,
     lg_k: u8,
     steps: &[Step],
@@ -73,16 +75,17 @@ pub fn evaluate_sums<A: Allocator + Clone + Drop, B: Allocator>(
     ensures value { (e : Expression)
         → steps.now ≡ postfix e
         → HasIndicesBelow (length sketches.now) e
-        → IfOk result (λ s. s ≡ ordered_sketch (sums_value lg_k (sums_values sketches.now) e) (seed_hash seed)) }
+        → IfOk result (λ s. s ≡ ordered_sketch (sums_value mode lg_k (sums_values sketches.now) e) (seed_hash seed)) }
     ensures whole { (e : Expression) (wholes : List (List (TupleEntry ℕ)))
         → steps.now ≡ postfix e
         → AreSamples tuple_key (sums_values sketches.now) wholes
         → HasIndicesBelow (length sketches.now) e
-        → IfOk result (λ s. IsSample tuple_key (compact_value tuple_key s) (whole_sums_in wholes e)) }
-    ensures accepted { OnOk result (sums_refusal seed lg_k steps.now sketches.now ≡ None) }
+        → IfOk result (λ s. IsSample tuple_key (compact_value tuple_key s) (whole_sums_in mode wholes e)) }
+    ensures accepted { OnOk result (sums_refusal mode seed lg_k steps.now sketches.now ≡ None) }
     ensures refused { IfErr result (
-        IsEvaluationError (sums_refusal seed lg_k steps.now sketches.now)
-        (MayRefuse sum_rules lg_k (sums_values sketches.now) steps.now (Some []))) }
+        IsEvaluationError (sums_refusal mode seed lg_k steps.now sketches.now)
+        (MayRefuse (sum_rules mode) lg_k (sums_values sketches.now) steps.now (Some []))) }
 {
-    evaluate_in::<SumSets, A, B>(&SumSets, alloc, seed, lg_k, steps, sketches)
+    let family = SumSets { mode };
+    evaluate_in::<SumSets, A, B>(&family, alloc, seed, lg_k, steps, sketches)
 }

@@ -28,7 +28,7 @@ pub trait SetFamily<A: Allocator, B: Allocator> {
     ghost use Rattle.expression_evaluation.specs.Values.{Rules};
 
     /// The rules of its entries.
-    ghost rules: { Rules Self.Entry };
+    ghost rules: { Self → Rules Self.Entry };
 
     /// The contents of its sketches.
     ghost named: { Self.Named → Compact Self.Entry };
@@ -44,7 +44,7 @@ pub trait SetFamily<A: Allocator, B: Allocator> {
         requires seeded { seed_refusal seed ≡ None }
         requires accepted { is_accepted (seed_hash seed) (named sketch.now) ≡ true }
         ensures value { IfOk result (λ s.
-            IsAnswer rules.key (value_by rules named sketch.now) (seed_hash seed) true (listed s)) }
+            IsAnswer (rules self.now).key (value_by (rules self.now) named sketch.now) (seed_hash seed) true (listed s)) }
         ensures refused { Refuses result None true };
 
     /// Two results of this seed combined, ordered. A union has 2^`lg_k` nominal entries. Refused with `OutOfMemory`,
@@ -61,10 +61,11 @@ pub trait SetFamily<A: Allocator, B: Allocator> {
         requires settings { settings_refusal lg_k MAX_THETA seed ≡ None }
         requires seeds { BothHaveSeed seed (listed first) (listed second) }
         ensures value { IfOk result (λ s.
-            IsCombination rules lg_k seed operator (listed first) (listed second) (listed s)) }
+            IsCombination (rules self.now) lg_k seed operator (listed first) (listed second) (listed s)) }
         ensures refused { IfErr result (IsMergeError (
-            MayRefuseTwo rules operator (value_by rules listed first) (value_by rules listed second))) };
+            MayRefuseTwo (rules self.now) operator (value_by (rules self.now) listed first)
+            (value_by (rules self.now) listed second))) };
 
     /// Merged entries keep their keys.
-    ghost keeps: { KeepsKey rules.key rules.merges };
+    ghost keeps: { (family : Self) → KeepsKey (rules family).key (rules family).merges };
 }

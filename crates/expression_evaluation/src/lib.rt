@@ -3,7 +3,7 @@
 //! `parse` reads an expression into the names that it has and its steps, in postfix order. `evaluate` runs the steps
 //! over one sketch per name. Its main promise: if each sketch retains exactly the hashes of its whole stream below
 //! its own theta, the result retains exactly those of the same expression of the whole streams below the result's
-//! theta. `evaluate_sums` does the same with sketches of sums, and adds the sums of a key that operands share.
+//! theta. `evaluate_sums` does the same with sketches of sums, and merges the sums of a key that operands share.
 //!
 //! ```
 //! let parsed = parse(alloc, b"(mon + tue) - wed")?;

@@ -40,7 +40,7 @@ impl<A: Allocator + Clone + Drop, B: Allocator> SetFamily<A, B> for ThetaSets {
     ghost use Rattle.expression_evaluation.specs.Values.{hash_rules};
     ghost use Rattle.expression_evaluation.specs.Contents.{contents_of};
 
-    ghost rules = { hash_rules };
+    ghost rules = { λ family. hash_rules };
 
     ghost named = { λ s. s };
 
@@ -84,7 +84,7 @@ impl<A: Allocator + Clone + Drop, B: Allocator> SetFamily<A, B> for ThetaSets {
         }
     }
 
-    ghost keeps = { λ x y same. same };
+    ghost keeps = { λ family x y same. same };
 }
 
 /// Intersects with a sketch that is empty or of the intersection's seed.

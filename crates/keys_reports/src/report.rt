@@ -55,7 +55,6 @@ pub fn report_of<A: Allocator>(sketch: &CompactThetaSketch<A>, deviations: Devia
 pub fn estimate_so_far<A: Allocator>(sketch: &ThetaSketch<A>) -> u128
     ensures { result ≡ rounded (fraction_of (sketch_value sketch.now)) }
 {
-    let _ = sketch.num_retained();
     let (over, under) = sketch.estimate_fraction();
     nearest(over, under)
 }

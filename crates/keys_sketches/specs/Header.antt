@@ -3,7 +3,7 @@ use Rattle.std.specs.Prelude.{ℕ, ◌≡◌, ◌&&◌, nat_le, Bool, ⊤, List,
 use Rattle.core_compact.specs.CompactState.{Compact}
 use Rattle.core_images.specs.Head.{theta_head, tuple_head, length_of, count_of, flaw_of_image}
 use Rattle.core_images.specs.declared.flaw.Flaw.{Flaw as ImageFlaw}
-use Rattle.core_images.specs.declared.flaw.Flaw.TheVariants.{Short, Family, Version, BigEndian, Cut, Seed, Damaged, Longer}
+use Rattle.core_images.specs.declared.flaw.Flaw.TheVariants.{Short, Family, Version, BigEndian, Malformed, Cut, Seed, Theta, Damaged, Longer}
 use Rattle.theta_sketches.specs.Image.{BeginsWith}
 use Rattle.keys_sketches.specs.Hex.{are_digits}
 use Rattle.keys_sketches.specs.declared.header.Flaw.{Flaw}
@@ -48,8 +48,10 @@ MayBeReadImage Short = ⊥
 MayBeReadImage (Family family) = ⊥
 MayBeReadImage (Version version) = ⊥
 MayBeReadImage BigEndian = ⊤
+MayBeReadImage Malformed = ⊥
 MayBeReadImage Cut = ⊥
 MayBeReadImage Seed = ⊥
+MayBeReadImage Theta = ⊥
 MayBeReadImage Damaged = ⊤
 MayBeReadImage Longer = ⊤
 

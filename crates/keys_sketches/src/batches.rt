@@ -22,11 +22,14 @@ pub trait SketchUnion<A: Allocator>: Drop {
     ghost use Rattle.sketch_base.specs.declared.error.ErrorKind.{ErrorKind};
     ghost use Rattle.keys_sketches.specs.Shards.{AreReadBy};
 
-    /// Whether it has united the sketches in images of a seed, at 2^`lg_k` nominal entries.
-    ghost has_united: { (seed lg_k : ℕ) → (images : List (List ℕ)) → Self → Type 0 };
+    /// What it is made with beside its seed: its `lg_k`, and how it combines summaries, if it does.
+    ghost Settings: { Type 0 };
 
-    /// Whether it accepts sketches of a seed: it has not failed.
-    ghost is_ready: { (seed : ℕ) → Self → Type 0 };
+    /// Whether it has united the sketches in images of a seed, with settings.
+    ghost has_united: { (seed : ℕ) → Settings → (images : List (List ℕ)) → Self → Type 0 };
+
+    /// Whether it has these settings and accepts sketches of a seed: it has not failed.
+    ghost is_ready: { (seed : ℕ) → Settings → Self → Type 0 };
 
     /// Whether an image of a seed is read as a sketch.
     ghost reads: { (seed : ℕ) → (image : List ℕ) → Self.Sketch → Type 0 };
@@ -34,8 +37,9 @@ pub trait SketchUnion<A: Allocator>: Drop {
     /// Whether bytes are no image of a seed.
     ghost is_no_image: { (seed : ℕ) → List ℕ → Type 0 };
 
-    /// The kind with which it may refuse to merge sketches that it has read; `None` if it never refuses any.
-    ghost merge_refusal: { Option ErrorKind };
+    /// The kind with which a union with settings may refuse to merge sketches that it has read; `None` if it never
+    /// refuses any.
+    ghost merge_refusal: { Settings → Option ErrorKind };
 
     /// The sketch of an image. Refused with `InvalidData` only if the bytes aren't an image of this seed, and with
     /// `OutOfMemory`.
@@ -46,23 +50,25 @@ pub trait SketchUnion<A: Allocator>: Drop {
     /// How many entries a sketch retains.
     fn retained(sketch: &Self::Sketch) -> usize;
 
-    /// The greatest summary of a sketch; 0 if it has none, or if no policy combines them. If those of all sketches
-    /// are below 2^64 together, they can be merged.
-    fn greatest(sketch: &Self::Sketch) -> u64;
+    /// The greatest summary of a sketch; 0 if it has none, or if the union refuses no summaries. If those of all
+    /// sketches are below 2^64 together, they can be merged.
+    fn greatest(&self, sketch: &Self::Sketch) -> u64;
 
     /// Merges sketches of this seed. If the union has not failed, it is refused only with `OutOfMemory`, and with
     /// `Policy` if the union's policy may refuse to merge summaries. What the union has after a refusal is
     /// unspecified.
     fn merge(&mut self, alloc: A, sketches: &[Self::Sketch]) -> Result<(), Error>
-        ensures united { (seed lg_k : ℕ) (first others : List (List ℕ))
-            → has_united seed lg_k first self.old
+        ensures united { (seed : ℕ) (settings : Settings) (first others : List (List ℕ))
+            → has_united seed settings first self.old
             → AreReadBy (reads seed) others sketches.now
-            → OnOk result (has_united seed lg_k (first ++ others) self.new) }
-        ensures refused { (seed : ℕ) (images : List (List ℕ))
-            → is_ready seed self.old
+            → OnOk result (has_united seed settings (first ++ others) self.new) }
+        ensures refused { (seed : ℕ) (settings : Settings) (images : List (List ℕ))
+            → is_ready seed settings self.old
             → AreReadBy (reads seed) images sketches.now
-            → IfErr result (IsMergeError merge_refusal) }
-        ensures ready { (seed : ℕ) → is_ready seed self.old → OnOk result (is_ready seed self.new) };
+            → IfErr result (IsMergeError (merge_refusal settings)) }
+        ensures ready { (seed : ℕ) (settings : Settings)
+            → is_ready seed settings self.old
+            → OnOk result (is_ready seed settings self.new) };
 }
 
 /// A union, and sketches that wait to be merged into it together. `update_all` takes a fraction of the time of one
@@ -87,12 +93,12 @@ pub struct Batch<U: SketchUnion<A>, A: Allocator> {
 impl<U: SketchUnion<A>, A: Allocator + Clone + Drop> Batch<U, A> {
     /// A batch for a new union, in which nothing waits. Its memory is of this allocator.
     pub fn new(union: U, alloc: A) -> Batch<U, A>
-        ensures united { (seed lg_k : ℕ) (images : List (List ℕ))
-            → U.has_united seed lg_k images union
-            → HasRead (U.has_united seed lg_k) (U.reads seed) images result.union result.waiting.items }
-        ensures ready { (seed : ℕ)
-            → U.is_ready seed union
-            → IsReadyFor (U.is_ready seed) (U.reads seed) result.union result.waiting.items }
+        ensures united { (seed : ℕ) (settings : U.Settings) (images : List (List ℕ))
+            → U.has_united seed settings images union
+            → HasRead (U.has_united seed settings) (U.reads seed) images result.union result.waiting.items }
+        ensures ready { (seed : ℕ) (settings : U.Settings)
+            → U.is_ready seed settings union
+            → IsReadyFor (U.is_ready seed settings) (U.reads seed) result.union result.waiting.items }
     {
         Batch {
             union,
@@ -104,16 +110,16 @@ impl<U: SketchUnion<A>, A: Allocator + Clone + Drop> Batch<U, A> {
 
     /// Merges the sketches that wait.
     fn merge_waiting(&mut self) -> Result<(), Error>
-        ensures united { (seed lg_k : ℕ) (images : List (List ℕ))
-            → HasRead (U.has_united seed lg_k) (U.reads seed) images self.old.union self.old.waiting.items
-            → OnOk result (U.has_united seed lg_k images self.new.union) }
+        ensures united { (seed : ℕ) (settings : U.Settings) (images : List (List ℕ))
+            → HasRead (U.has_united seed settings) (U.reads seed) images self.old.union self.old.waiting.items
+            → OnOk result (U.has_united seed settings images self.new.union) }
         ensures none_waits { OnOk result (self.new.waiting.items ≡ []) }
-        ensures refused { (seed : ℕ)
-            → IsReadyFor (U.is_ready seed) (U.reads seed) self.old.union self.old.waiting.items
-            → IfErr result (IsMergeError U.merge_refusal) }
-        ensures ready { (seed : ℕ)
-            → IsReadyFor (U.is_ready seed) (U.reads seed) self.old.union self.old.waiting.items
-            → OnOk result (U.is_ready seed self.new.union) }
+        ensures refused { (seed : ℕ) (settings : U.Settings)
+            → IsReadyFor (U.is_ready seed settings) (U.reads seed) self.old.union self.old.waiting.items
+            → IfErr result (IsMergeError (U.merge_refusal settings)) }
+        ensures ready { (seed : ℕ) (settings : U.Settings)
+            → IsReadyFor (U.is_ready seed settings) (U.reads seed) self.old.union self.old.waiting.items
+            → OnOk result (U.is_ready seed settings self.new.union) }
     {
         let alloc = self.waiting.allocator().clone()?;
         self.union.merge(alloc, self.waiting.as_slice())?;
@@ -125,15 +131,15 @@ impl<U: SketchUnion<A>, A: Allocator + Clone + Drop> Batch<U, A> {
     /// The union, once the sketches that wait are merged. If the union has not failed, it is refused only as a merge
     /// is.
     pub fn into_union(mut self) -> Result<U, Error>
-        ensures united { (seed lg_k : ℕ) (images : List (List ℕ))
-            → HasRead (U.has_united seed lg_k) (U.reads seed) images self.union self.waiting.items
-            → IfOk result (U.has_united seed lg_k images) }
-        ensures refused { (seed : ℕ)
-            → IsReadyFor (U.is_ready seed) (U.reads seed) self.union self.waiting.items
-            → IfErr result (IsMergeError U.merge_refusal) }
-        ensures ready { (seed : ℕ)
-            → IsReadyFor (U.is_ready seed) (U.reads seed) self.union self.waiting.items
-            → IfOk result (U.is_ready seed) }
+        ensures united { (seed : ℕ) (settings : U.Settings) (images : List (List ℕ))
+            → HasRead (U.has_united seed settings) (U.reads seed) images self.union self.waiting.items
+            → IfOk result (U.has_united seed settings images) }
+        ensures refused { (seed : ℕ) (settings : U.Settings)
+            → IsReadyFor (U.is_ready seed settings) (U.reads seed) self.union self.waiting.items
+            → IfErr result (IsMergeError (U.merge_refusal settings)) }
+        ensures ready { (seed : ℕ) (settings : U.Settings)
+            → IsReadyFor (U.is_ready seed settings) (U.reads seed) self.union self.waiting.items
+            → IfOk result (U.is_ready seed settings) }
     {
         self.merge_waiting()?;
         Ok(self.union)
@@ -143,10 +149,12 @@ impl<U: SketchUnion<A>, A: Allocator + Clone + Drop> Batch<U, A> {
 impl<U: SketchUnion<A>, A: Allocator + Clone + Drop> ImageUnion for Batch<U, A> {
     ghost use Rattle.keys_sketches.specs.Batches.{HasRead, IsReadyFor};
 
-    ghost has_united = { λ seed lg_k images b.
-        HasRead (U.has_united seed lg_k) (U.reads seed) images b.union b.waiting.items };
+    ghost Settings = { U.Settings };
 
-    ghost is_ready = { λ seed b. IsReadyFor (U.is_ready seed) (U.reads seed) b.union b.waiting.items };
+    ghost has_united = { λ seed settings images b.
+        HasRead (U.has_united seed settings) (U.reads seed) images b.union b.waiting.items };
+
+    ghost is_ready = { λ seed settings b. IsReadyFor (U.is_ready seed settings) (U.reads seed) b.union b.waiting.items };
 
     ghost is_no_image = { U.is_no_image };
 
@@ -161,7 +169,7 @@ impl<U: SketchUnion<A>, A: Allocator + Clone + Drop> ImageUnion for Batch<U, A> 
     ) -> Result<(), Error> {
         let own = self.waiting.allocator().clone()?;
         let sketch = U::read(own, seed, image)?;
-        let greatest = U::greatest(&sketch);
+        let greatest = self.union.greatest(&sketch);
         let is_sure = greatest <= u64::MAX - self.greatest;
         self.greatest = self.greatest.saturating_add(greatest);
         self.entries = self.entries.saturating_add(U::retained(&sketch));

@@ -12,17 +12,21 @@ pub trait ImageUnion {
     ghost use Rattle.std.specs.Prelude.{ℕ, List, Option};
     ghost use Rattle.sketch_base.specs.declared.error.ErrorKind.{ErrorKind};
 
-    /// Whether it has united the sketches in images of a seed, at 2^`lg_k` nominal entries.
-    ghost has_united: { (seed lg_k : ℕ) → (images : List (List ℕ)) → Self → Type 0 };
+    /// What it is made with beside its seed: its `lg_k`, and how it combines summaries, if it does.
+    ghost Settings: { Type 0 };
 
-    /// Whether it accepts images of a seed: it has not failed.
-    ghost is_ready: { (seed : ℕ) → Self → Type 0 };
+    /// Whether it has united the sketches in images of a seed, with settings.
+    ghost has_united: { (seed : ℕ) → Settings → (images : List (List ℕ)) → Self → Type 0 };
+
+    /// Whether it has these settings and accepts images of a seed: it has not failed.
+    ghost is_ready: { (seed : ℕ) → Settings → Self → Type 0 };
 
     /// Whether bytes are no image of a seed.
     ghost is_no_image: { (seed : ℕ) → List ℕ → Type 0 };
 
-    /// The kind with which it may refuse to merge a sketch that it has read; `None` if it never refuses one.
-    ghost merge_refusal: { Option ErrorKind };
+    /// The kind with which a union with settings may refuse to merge a sketch that it has read; `None` if it never
+    /// refuses one.
+    ghost merge_refusal: { Settings → Option ErrorKind };
 
     /// Adds an image to a union of sketches of this seed. If the union has not failed, it is refused only with
     /// `InvalidData`, if the bytes aren't an image of this seed, with `OutOfMemory`, and with `Policy` if the union's
@@ -33,12 +37,15 @@ pub trait ImageUnion {
         seed: u64,
         image: &[u8],
     ) -> Result<(), Error>
-        ensures united { (lg_k : ℕ) (images : List (List ℕ))
-            → has_united seed lg_k images self.old
-            → OnOk result (has_united seed lg_k (images ++ image.now ∷ []) self.new) }
-        ensures refused { is_ready seed self.old
-            → IfErr result (IsImageRefusal merge_refusal (is_no_image seed image.now)) }
-        ensures ready { is_ready seed self.old → OnOk result (is_ready seed self.new) };
+        ensures united { (settings : Settings) (images : List (List ℕ))
+            → has_united seed settings images self.old
+            → OnOk result (has_united seed settings (images ++ image.now ∷ []) self.new) }
+        ensures refused { (settings : Settings)
+            → is_ready seed settings self.old
+            → IfErr result (IsImageRefusal (merge_refusal settings) (is_no_image seed image.now)) }
+        ensures ready { (settings : Settings)
+            → is_ready seed settings self.old
+            → OnOk result (is_ready seed settings self.new) };
 }
 
 /// Adds the image in a reader to a union.
@@ -48,13 +55,16 @@ fn add_reader<U: ImageUnion, B: Allocator + Clone + Drop, R: TextReader>(
     seed: u64,
     reader: &mut R,
 ) -> Result<(), ReadError>
-    ensures united { (lg_k : ℕ) (images : List (List ℕ))
-        → U.has_united seed lg_k images union.old
+    ensures united { (settings : U.Settings) (images : List (List ℕ))
+        → U.has_united seed settings images union.old
         → IfSome (R.remaining reader.old) (λ image.
-        OnOk result (U.has_united seed lg_k (images ++ image ∷ []) union.new)) }
-    ensures refused { U.is_ready seed union.old
-        → IfErr result (IsImageFailure U.merge_refusal (IfSome (R.remaining reader.old) (U.is_no_image seed))) }
-    ensures ready { U.is_ready seed union.old → OnOk result (U.is_ready seed union.new) }
+        OnOk result (U.has_united seed settings (images ++ image ∷ []) union.new)) }
+    ensures refused { (settings : U.Settings)
+        → U.is_ready seed settings union.old
+        → IfErr result (IsImageFailure (U.merge_refusal settings) (IfSome (R.remaining reader.old) (U.is_no_image seed))) }
+    ensures ready { (settings : U.Settings)
+        → U.is_ready seed settings union.old
+        → OnOk result (U.is_ready seed settings union.new) }
     ensures fallible { IfErr result (FailsIf R.may_fail) }
 {
     let mut image = Vec::new(alloc.clone()?);
@@ -77,13 +87,16 @@ pub fn add_images<U: ImageUnion, B: Allocator + Clone + Drop, S: Sources>(
     seed: u64,
     sources: &mut S,
 ) -> Result<u64, ReadError>
-    ensures united { (lg_k : ℕ) (images : List (List ℕ))
-        → U.has_united seed lg_k images union.old
-        → IfSome (S.texts sources.old) (λ more. OnOk result (U.has_united seed lg_k (images ++ more) union.new)) }
+    ensures united { (settings : U.Settings) (images : List (List ℕ))
+        → U.has_united seed settings images union.old
+        → IfSome (S.texts sources.old) (λ more. OnOk result (U.has_united seed settings (images ++ more) union.new)) }
     ensures counted { IfSome (S.texts sources.old) (λ more. IfOk result (λ count. count ≡ length more)) }
-    ensures refused { U.is_ready seed union.old
-        → IfErr result (IsImageFailure U.merge_refusal (IfSome (S.texts sources.old) (HasFault (U.is_no_image seed)))) }
-    ensures ready { U.is_ready seed union.old → OnOk result (U.is_ready seed union.new) }
+    ensures refused { (settings : U.Settings)
+        → U.is_ready seed settings union.old
+        → IfErr result (IsImageFailure (U.merge_refusal settings) (IfSome (S.texts sources.old) (HasFault (U.is_no_image seed)))) }
+    ensures ready { (settings : U.Settings)
+        → U.is_ready seed settings union.old
+        → OnOk result (U.is_ready seed settings union.new) }
     ensures fallible { IfErr result (FailsIf S.may_fail) }
 {
     for count in 0..u64::MAX {

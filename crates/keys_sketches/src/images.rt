@@ -51,8 +51,6 @@ pub fn image_of<A: Allocator + Clone + Drop>(
     ensures refused { Refuses result None true }
 {
     read_again();
-    // Its contract says that the sketch keeps its laws.
-    let _ = sketch.num_retained();
     sketch.serialize()
 }
 

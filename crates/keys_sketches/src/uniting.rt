@@ -29,17 +29,19 @@ use theta_sketches::laws::{one_reading, read_again};
 use theta_sketches::{CompactThetaSketch, ThetaSketchView, ThetaUnion};
 
 impl<A: Allocator + Clone> ImageUnion for ThetaUnion<A> {
-    ghost use Rattle.std.specs.Prelude.{None};
+    ghost use Rattle.std.specs.Prelude.{ℕ, None};
     ghost use Rattle.keys_sketches.specs.Refusals.{IsNoImage};
     ghost use Rattle.keys_sketches.specs.Unions.{HasUnited, IsReady};
 
+    ghost Settings = { ℕ };
+
     ghost has_united = { HasUnited };
 
-    ghost is_ready = { IsReady };
+    ghost is_ready = { λ seed lg_k u. IsReady seed u };
 
     ghost is_no_image = { IsNoImage };
 
-    ghost merge_refusal = { None };
+    ghost merge_refusal = { λ lg_k. None };
 
     fn add_image<B: Allocator + Clone + Drop>(
         &mut self,
@@ -74,20 +76,22 @@ pub fn views_of<'a, A: Allocator + Clone + Drop>(
 impl<A: Allocator + Clone + Drop> SketchUnion<A> for ThetaUnion<A> {
     type Sketch = CompactThetaSketch<A>;
 
-    ghost use Rattle.std.specs.Prelude.{None};
+    ghost use Rattle.std.specs.Prelude.{ℕ, None};
     ghost use Rattle.keys_sketches.specs.Refusals.{IsNoImage};
     ghost use Rattle.keys_sketches.specs.Shards.{ReadsUnder};
     ghost use Rattle.keys_sketches.specs.Unions.{HasUnited, IsReady};
 
+    ghost Settings = { ℕ };
+
     ghost has_united = { HasUnited };
 
-    ghost is_ready = { IsReady };
+    ghost is_ready = { λ seed lg_k u. IsReady seed u };
 
     ghost reads = { ReadsUnder };
 
     ghost is_no_image = { IsNoImage };
 
-    ghost merge_refusal = { None };
+    ghost merge_refusal = { λ lg_k. None };
 
     fn read(alloc: A, seed: u64, image: &[u8]) -> Result<CompactThetaSketch<A>, Error> {
         read_image(alloc, seed, image)
@@ -97,7 +101,7 @@ impl<A: Allocator + Clone + Drop> SketchUnion<A> for ThetaUnion<A> {
         sketch.num_retained()
     }
 
-    fn greatest(_sketch: &CompactThetaSketch<A>) -> u64 {
+    fn greatest(&self, _sketch: &CompactThetaSketch<A>) -> u64 {
         0
     }
 

@@ -19,16 +19,17 @@ use Rattle.keys_lines.specs.declared.key.Hashing.{Hashing}
 use Rattle.keys_sketches.specs.Keys.{key_set, IsAmong}
 use Rattle.keys_sketches.proofs.Compacts.{compact}
 use Rattle.keys_sketches.proofs.Shards.{is_found, part_of}
+use Rattle.tuple_sketches.specs.declared.numbers.SummaryMode.TheVariants.{Sum}
 use Rattle.totals.specs.Totals.{sum_of, total_of}
 use Rattle.totals.proofs.Scaled.{exact_total}
-use Rattle.keys_sums.specs.Sums.{sum_at, sum_below, sketch_of_sums}
+use Rattle.keys_sums.specs.Sums.{summary_at, sum_below, sketch_of_sums}
 
 module _ (hashing : Hashing) where
   -- ---- the sum at retained hashes, a line more
 
   module _ (amount : List ℕ → ℕ) where
     abbrev sum_on : List (List ℕ) → List ℕ → ℕ
-    sum_on lines hashes = sum_of (map (λ h. tuple_of h (sum_at hashing amount lines h)) hashes)
+    sum_on lines hashes = sum_of (map (λ h. tuple_of h (summary_at Sum hashing amount lines h)) hashes)
 
     sum_of_none : (hashes : List ℕ) → sum_on [] hashes ≡ 0
     sum_of_none [] = refl
@@ -43,7 +44,7 @@ module _ (hashing : Hashing) where
     sum_of_more line lines (h ∷ hashes) up =
         let q : ℕ = line_hash hashing line in
         let later : sum_on (line ∷ lines) hashes ≡ adds_on line hashes + sum_on lines hashes = sum_of_more line lines hashes (ascending-tail hash_key h hashes up) in
-        (elim (eqb q h) as (λ b. eqb q h ≡ b → (cond b (amount line) 0 + sum_at hashing amount lines h) + sum_on (line ∷ lines) hashes ≡ adds_on line (h ∷ hashes) + (sum_at hashing amount lines h + sum_on lines hashes)) [
+        (elim (eqb q h) as (λ b. eqb q h ≡ b → cond b (amount line + summary_at Sum hashing amount lines h) (summary_at Sum hashing amount lines h) + sum_on (line ∷ lines) hashes ≡ adds_on line (h ∷ hashes) + (summary_at Sum hashing amount lines h + sum_on lines hashes)) [
           | true ↦ λ e.
               let same : h ≡ q = grind (arith, nat_tests) in
               let here : adds_on line (h ∷ hashes) ≡ amount line = ap (λ (o : Option ℕ). cond (is_some o) (amount line) 0) (entry_at_head hash_key h hashes q same) in
@@ -92,7 +93,7 @@ module _ (hashing : Hashing) where
           omega (arith, sum_of_more line some hashes up, not_screened line (within line (inl refl)), sum_of_some some up (λ other among. within other (inr among)))
 
     -- the sum of the sums of a sketch of lines
-    pub sums_below : (lg_k : ℕ) (lines : List (List ℕ)) → lg_k ≤ 26 → sum_of (sketch_of_sums hashing amount lg_k lines).entries ≡ sum_below hashing amount (sketch_of_sums hashing amount lg_k lines).theta lines
+    pub sums_below : (lg_k : ℕ) (lines : List (List ℕ)) → lg_k ≤ 26 → sum_of (sketch_of_sums Sum hashing amount lg_k lines).entries ≡ sum_below hashing amount (sketch_of_sums Sum hashing amount lg_k lines).theta lines
     sums_below lg_k [] small = refl
     sums_below lg_k (line ∷ lines) small =
         let shown = (compact hashing lg_k (line ∷ lines) small).shown in
@@ -101,9 +102,9 @@ module _ (hashing : Hashing) where
         (each-from_map hash_key (λ (h : ℕ). 0 < h) kept.entries shown.nonzero) shown.theta_high (line ∷ lines) (ascending-from_map hash_key kept.entries (shown.ascending refl)) (λ other among. among)
 
     -- an exact total
-    pub exact_below : (lg_k : ℕ) (lines : List (List ℕ)) → lg_k ≤ 26 → (total_of (sketch_of_sums hashing amount lg_k lines)).exact ≡ true →
-        (total_of (sketch_of_sums hashing amount lg_k lines)).total ≡ sum_below hashing amount MAX_THETA lines
+    pub exact_below : (lg_k : ℕ) (lines : List (List ℕ)) → lg_k ≤ 26 → (total_of (sketch_of_sums Sum hashing amount lg_k lines)).exact ≡ true →
+        (total_of (sketch_of_sums Sum hashing amount lg_k lines)).total ≡ sum_below hashing amount MAX_THETA lines
     exact_below lg_k lines small exact =
-        let s = sketch_of_sums hashing amount lg_k lines in
+        let s = sketch_of_sums Sum hashing amount lg_k lines in
         let both = exact_total s exact in
         both.1 ∙ sums_below lg_k lines small ∙ ap (λ (t : ℕ). sum_below hashing amount t lines) both.0

@@ -12,10 +12,12 @@ use Rattle.keys_lines.specs.Lines.{lines_of, lines_of_all, lines_after, Lacks}
 use Rattle.keys_lines.specs.declared.key.Hashing.{Hashing}
 use Rattle.keys_lines.proofs.Texts.{lines_after-line, lines_after-lacking, lines_whole}
 use Rattle.keys_sums.specs.Amounts.{amount_in, added_by, AreNumbers, IsOpenAddend}
-use Rattle.keys_sums.specs.Sums.{sum_at, HasAdded, Summed}
+use Rattle.keys_sums.specs.Sums.{summary_at, HasAdded, Summed}
+use Rattle.tuple_sketches.specs.declared.numbers.SummaryMode.{SummaryMode}
+use Rattle.tuple_sketches.specs.declared.numbers.SummaryMode.TheVariants.{Sum}
 use Rattle.keys_sums.specs.Reading.{Ends, HasTaken}
 use Rattle.keys_sums.specs.Refusals.{count_after, LacksNumber, LacksNumberIn, LacksNumberAt, LacksNumberOf, IsPast, IsByPolicy, IsPastIn}
-use Rattle.keys_sums.proofs.Amounts.{sum_append}
+use Rattle.keys_sums.proofs.Amounts.{summary_append}
 use Rattle.keys_sums.specs.declared.summing.SumError.{SumError}
 use Rattle.keys_sums.specs.declared.summing.SumError.TheVariants.{Refused, Failed, PastGreatest, NotANumber}
 use Rattle.keys_sums.specs.declared.addends.Amount.{Amount}
@@ -109,23 +111,24 @@ lacking_texts amount (PastGreatest number) texts fault = tt
 
 -- ---- a sum of 2^64 or more among the sums of lines
 
-past_before : (hashing : Hashing) (amount : List ℕ → ℕ) (lines back all : List (List ℕ)) → lines ++ back ≡ all → IsPast hashing amount lines → IsPast hashing amount all
-past_before hashing amount lines back all whole past =
-    let same : sum_at hashing amount (lines ++ back) past.0 ≡ sum_at hashing amount all past.0 = ap (λ (ls : List (List ℕ)). sum_at hashing amount ls past.0) whole in
-    (past.0, omega (arith, sum_append hashing amount lines back past.0, same, past.1))
+past_before : (mode : SummaryMode) (hashing : Hashing) (amount : List ℕ → ℕ) (lines back all : List (List ℕ)) → lines ++ back ≡ all → IsPast mode hashing amount lines → IsPast mode hashing amount all
+past_before mode hashing amount lines back all whole past =
+    let h : ℕ = past.1.0 in
+    let same : summary_at Sum hashing amount (lines ++ back) h ≡ summary_at Sum hashing amount all h = ap (λ (ls : List (List ℕ)). summary_at Sum hashing amount ls h) whole in
+    (past.0, (h, omega (arith, summary_append Sum hashing amount lines back h, same, past.1.1)))
 
-past_among : (hashing : Hashing) (amount : Amount) (lines back all : List (List ℕ)) (u : SumError) → lines ++ back ≡ all → IsPastIn hashing amount lines u → IsPastIn hashing amount all u
-past_among hashing amount lines back all (PastGreatest number) whole past = past_before hashing (added_by amount) lines back all whole past
-past_among hashing amount lines back all (Refused kind) whole past = tt
-past_among hashing amount lines back all (Failed error) whole past = tt
-past_among hashing amount lines back all (NotANumber number) whole past = tt
+past_among : (mode : SummaryMode) (hashing : Hashing) (amount : Amount) (lines back all : List (List ℕ)) (u : SumError) → lines ++ back ≡ all → IsPastIn mode hashing amount lines u → IsPastIn mode hashing amount all u
+past_among mode hashing amount lines back all (PastGreatest number) whole past = past_before mode hashing (added_by amount) lines back all whole past
+past_among mode hashing amount lines back all (Refused kind) whole past = tt
+past_among mode hashing amount lines back all (Failed error) whole past = tt
+past_among mode hashing amount lines back all (NotANumber number) whole past = tt
 
 -- what is reported of an addition that the policy refused
-pub past_policy : (hashing : Hashing) (amount : Amount) (lines : List (List ℕ)) (kind : ErrorKind) (u : SumError) → IsByPolicy kind u → (kind ≡ Policy → IsPast hashing (added_by amount) lines) → IsPastIn hashing amount lines u
-past_policy hashing amount lines kind (PastGreatest number) policy past = past policy
-past_policy hashing amount lines kind (Refused other) policy past = tt
-past_policy hashing amount lines kind (Failed error) policy past = tt
-past_policy hashing amount lines kind (NotANumber number) policy past = tt
+pub past_policy : (mode : SummaryMode) (hashing : Hashing) (amount : Amount) (lines : List (List ℕ)) (kind : ErrorKind) (u : SumError) → IsByPolicy kind u → (kind ≡ Policy → IsPast mode hashing (added_by amount) lines) → IsPastIn mode hashing amount lines u
+past_policy mode hashing amount lines kind (PastGreatest number) policy past = past policy
+past_policy mode hashing amount lines kind (Refused other) policy past = tt
+past_policy mode hashing amount lines kind (Failed error) policy past = tt
+past_policy mode hashing amount lines kind (NotANumber number) policy past = tt
 
 module _ (hashing : Hashing) (amount : Amount) where
   -- nothing was read yet
@@ -136,21 +139,21 @@ module _ (hashing : Hashing) (amount : Amount) where
     ends = ends_nothing front;
     counts = refl;
     is_open = is;
-    added = λ lg_k lines has. subst (λ (ls : List (List ℕ)). HasAdded hashing amount lg_k ls s) (sym (append-nil lines)) has;
+    added = λ mode lg_k lines has. subst (λ (ls : List (List ℕ)). HasAdded mode hashing amount lg_k ls s) (sym (append-nil lines)) has;
   }
 
   -- one line more ended
   pub taken_line : (front taken line : List ℕ) (r s t : Summed) (last next : OpenAddend) (count counted more : ℕ) (was : HasTaken hashing amount front taken r s last count counted) → Lacks 10 line →
       IsOpenAddend hashing amount [] next → more ≡ min (counted + 1) (2 ^ 64 - 1) →
-      ((lg_k : ℕ) (lines : List (List ℕ)) → HasAdded hashing amount lg_k lines s → HasAdded hashing amount lg_k (lines ++ (was.left ++ line) ∷ []) t) → HasTaken hashing amount front (taken ++ (line ++ 10 ∷ [])) r t next count more
+      ((mode : SummaryMode) (lg_k : ℕ) (lines : List (List ℕ)) → HasAdded mode hashing amount lg_k lines s → HasAdded mode hashing amount lg_k (lines ++ (was.left ++ line) ∷ []) t) → HasTaken hashing amount front (taken ++ (line ++ 10 ∷ [])) r t next count more
   taken_line front taken line r s t last next count counted more was lacks is one step = record {
     ended = was.ended ++ (was.left ++ line) ∷ [];
     left = [];
     ends = ends_line front taken was.left line was.ended was.ends lacks;
     counts = one ∙ ap (λ n. min (n + 1) (2 ^ 64 - 1)) was.counts ∙ count_more count was.ended ((was.left ++ line) ∷ []);
     is_open = is;
-    added = λ lg_k lines has.
-        subst (λ (ls : List (List ℕ)). HasAdded hashing amount lg_k ls t) (append_assoc lines was.ended ((was.left ++ line) ∷ [])) (step lg_k (lines ++ was.ended) (was.added lg_k lines has));
+    added = λ mode lg_k lines has.
+        subst (λ (ls : List (List ℕ)). HasAdded mode hashing amount lg_k ls t) (append_assoc lines was.ended ((was.left ++ line) ∷ [])) (step mode lg_k (lines ++ was.ended) (was.added mode lg_k lines has));
   }
 
   -- the rest of a block, in which no line ends
@@ -175,18 +178,18 @@ module _ (hashing : Hashing) (amount : Amount) where
         ap (lines_after front) (append_assoc piece block more) ∙ first.ends (block ++ more) ∙ ap (λ ls. first.ended ++ ls) (second.ends more) ∙ sym (append_assoc first.ended second.ended (lines_after second.left more));
     counts = second.counts ∙ ap (λ n. count_after n (length second.ended)) first.counts ∙ count_more count first.ended second.ended;
     is_open = second.is_open;
-    added = λ lg_k lines has.
-        subst (λ (ls : List (List ℕ)). HasAdded hashing amount lg_k ls t) (append_assoc lines first.ended second.ended) (second.added lg_k (lines ++ first.ended) (first.added lg_k lines has));
+    added = λ mode lg_k lines has.
+        subst (λ (ls : List (List ℕ)). HasAdded mode hashing amount lg_k ls t) (append_assoc lines first.ended second.ended) (second.added mode lg_k (lines ++ first.ended) (first.added mode lg_k lines has));
   }
 
   whole_text : (text : List ℕ) (r s : Summed) (last : OpenAddend) (count counted : ℕ) (all : HasTaken hashing amount [] text r s last count counted) → all.ended ++ lines_after all.left [] ≡ lines_of text
   whole_text text r s last count counted all = sym (all.ends []) ∙ ap (lines_after []) (append-nil text) ∙ lines_whole text
 
   -- at the end of a text
-  pub taken_all : (lg_k : ℕ) (lines : List (List ℕ)) (text : List ℕ) (r s t : Summed) (last : OpenAddend) (count counted : ℕ) (all : HasTaken hashing amount [] text r s last count counted) →
-      HasAdded hashing amount lg_k ((lines ++ all.ended) ++ lines_after all.left []) t → HasAdded hashing amount lg_k (lines ++ lines_of text) t
-  taken_all lg_k lines text r s t last count counted all has =
-      subst (λ (ls : List (List ℕ)). HasAdded hashing amount lg_k ls t) (append_assoc lines all.ended (lines_after all.left []) ∙ ap (λ ls. lines ++ ls) (whole_text text r s last count counted all)) has
+  pub taken_all : (mode : SummaryMode) (lg_k : ℕ) (lines : List (List ℕ)) (text : List ℕ) (r s t : Summed) (last : OpenAddend) (count counted : ℕ) (all : HasTaken hashing amount [] text r s last count counted) →
+      HasAdded mode hashing amount lg_k ((lines ++ all.ended) ++ lines_after all.left []) t → HasAdded mode hashing amount lg_k (lines ++ lines_of text) t
+  taken_all mode lg_k lines text r s t last count counted all has =
+      subst (λ (ls : List (List ℕ)). HasAdded mode hashing amount lg_k ls t) (append_assoc lines all.ended (lines_after all.left []) ∙ ap (λ ls. lines ++ ls) (whole_text text r s last count counted all)) has
 
   -- ---- a line that has no number
 
@@ -239,40 +242,40 @@ module _ (hashing : Hashing) (amount : Amount) where
   -- ---- a sum of 2^64 or more
 
   -- .. with a line that a block ends
-  pub past_block : (lines : List (List ℕ)) (front taken line others more block : List ℕ) (u : SumError) (r s : Summed) (last : OpenAddend) (count counted : ℕ) (was : HasTaken hashing amount front taken r s last count counted) → Lacks 10 line →
-      block ≡ taken ++ (line ++ 10 ∷ others) → IsPastIn hashing amount ((lines ++ was.ended) ++ (was.left ++ line) ∷ []) u → IsPastIn hashing amount (lines ++ lines_after front (block ++ more)) u
-  past_block lines front taken line others more block u r s last count counted was lacks parted past =
+  pub past_block : (mode : SummaryMode) (lines : List (List ℕ)) (front taken line others more block : List ℕ) (u : SumError) (r s : Summed) (last : OpenAddend) (count counted : ℕ) (was : HasTaken hashing amount front taken r s last count counted) → Lacks 10 line →
+      block ≡ taken ++ (line ++ 10 ∷ others) → IsPastIn mode hashing amount ((lines ++ was.ended) ++ (was.left ++ line) ∷ []) u → IsPastIn mode hashing amount (lines ++ lines_after front (block ++ more)) u
+  past_block mode lines front taken line others more block u r s last count counted was lacks parted past =
       let back : List (List ℕ) = lines_after [] (others ++ more) in
-      past_among hashing amount ((lines ++ was.ended) ++ (was.left ++ line) ∷ []) back (lines ++ lines_after front (block ++ more)) u
+      past_among mode hashing amount ((lines ++ was.ended) ++ (was.left ++ line) ∷ []) back (lines ++ lines_after front (block ++ more)) u
       (append_assoc (lines ++ was.ended) ((was.left ++ line) ∷ []) back ∙ append_assoc lines was.ended ((was.left ++ line) ∷ back) ∙ ap (λ ls. lines ++ ls) (sym (line_parted front taken line others more block r s last count counted was lacks parted)))
       past
 
   -- .. with the last line of a text
-  pub past_end : (lines : List (List ℕ)) (text : List ℕ) (u : SumError) (r s : Summed) (last : OpenAddend) (count counted : ℕ) (all : HasTaken hashing amount [] text r s last count counted) →
-      IsPastIn hashing amount ((lines ++ all.ended) ++ lines_after all.left []) u → IsPastIn hashing amount (lines ++ lines_of text) u
-  past_end lines text u r s last count counted all past =
-      subst (λ (ls : List (List ℕ)). IsPastIn hashing amount ls u) (append_assoc lines all.ended (lines_after all.left []) ∙ ap (λ ls. lines ++ ls) (whole_text text r s last count counted all)) past
+  pub past_end : (mode : SummaryMode) (lines : List (List ℕ)) (text : List ℕ) (u : SumError) (r s : Summed) (last : OpenAddend) (count counted : ℕ) (all : HasTaken hashing amount [] text r s last count counted) →
+      IsPastIn mode hashing amount ((lines ++ all.ended) ++ lines_after all.left []) u → IsPastIn mode hashing amount (lines ++ lines_of text) u
+  past_end mode lines text u r s last count counted all past =
+      subst (λ (ls : List (List ℕ)). IsPastIn mode hashing amount ls u) (append_assoc lines all.ended (lines_after all.left []) ∙ ap (λ ls. lines ++ ls) (whole_text text r s last count counted all)) past
 
   -- .. with a line of a text whose first bytes are read
-  pub past_text : (lines : List (List ℕ)) (o new : Option (List ℕ)) (read block : List ℕ) (u : SumError) (r s : Summed) (last : OpenAddend) (count counted : ℕ) (was : HasTaken hashing amount [] read r s last count counted) → Consumes o new (read ++ block) →
-      ((more : List ℕ) → IsPastIn hashing amount ((lines ++ was.ended) ++ lines_after was.left (block ++ more)) u) → IfSome o (λ text. IsPastIn hashing amount (lines ++ lines_of text) u)
-  past_text lines None new read block u r s last count counted was consumes past = tt
-  past_text lines (Some text) None read block u r s last count counted was consumes past = absurd consumes
-  past_text lines (Some text) (Some more) read block u r s last count counted was consumes past =
-      subst (λ (ls : List (List ℕ)). IsPastIn hashing amount ls u)
+  pub past_text : (mode : SummaryMode) (lines : List (List ℕ)) (o new : Option (List ℕ)) (read block : List ℕ) (u : SumError) (r s : Summed) (last : OpenAddend) (count counted : ℕ) (was : HasTaken hashing amount [] read r s last count counted) → Consumes o new (read ++ block) →
+      ((more : List ℕ) → IsPastIn mode hashing amount ((lines ++ was.ended) ++ lines_after was.left (block ++ more)) u) → IfSome o (λ text. IsPastIn mode hashing amount (lines ++ lines_of text) u)
+  past_text mode lines None new read block u r s last count counted was consumes past = tt
+  past_text mode lines (Some text) None read block u r s last count counted was consumes past = absurd consumes
+  past_text mode lines (Some text) (Some more) read block u r s last count counted was consumes past =
+      subst (λ (ls : List (List ℕ)). IsPastIn mode hashing amount ls u)
       (append_assoc lines was.ended (lines_after was.left (block ++ more)) ∙ ap (λ ls. lines ++ ls) (text_parted text more read block r s last count counted was consumes)) (past more)
 
   -- .. with a line of the next text
-  pub past_next : {S : Type 0} (lg_k : ℕ) (remaining : S → Option (List ℕ)) (old now new : Option (List (List ℕ))) (o : Option S) (source : S) (u : SumError) (s : Summed) →
-      Continues old now (λ taken. HasAdded hashing amount lg_k (lines_of_all taken) s) → GivesNext remaining now new o → o ≡ Some source →
-      ((lines : List (List ℕ)) → HasAdded hashing amount lg_k lines s → IfSome (remaining source) (λ text. IsPastIn hashing amount (lines ++ lines_of text) u)) → IfSome old (λ all. IsPastIn hashing amount (lines_of_all all) u)
-  past_next lg_k remaining None now new o source u s so_far gives is past = tt
-  past_next lg_k remaining (Some texts) None new o source u s so_far gives is past = absurd so_far
-  past_next lg_k remaining (Some texts) (Some left) new o source u s so_far gives is past =
+  pub past_next : {S : Type 0} (mode : SummaryMode) (lg_k : ℕ) (remaining : S → Option (List ℕ)) (old now new : Option (List (List ℕ))) (o : Option S) (source : S) (u : SumError) (s : Summed) →
+      Continues old now (λ taken. HasAdded mode hashing amount lg_k (lines_of_all taken) s) → GivesNext remaining now new o → o ≡ Some source →
+      ((lines : List (List ℕ)) → HasAdded mode hashing amount lg_k lines s → IfSome (remaining source) (λ text. IsPastIn mode hashing amount (lines ++ lines_of text) u)) → IfSome old (λ all. IsPastIn mode hashing amount (lines_of_all all) u)
+  past_next mode lg_k remaining None now new o source u s so_far gives is past = tt
+  past_next mode lg_k remaining (Some texts) None new o source u s so_far gives is past = absurd so_far
+  past_next mode lg_k remaining (Some texts) (Some left) new o source u s so_far gives is past =
       let first : IsFirst remaining left source new = subst (GivesNext remaining (Some left) new) is gives in
-      let here : IsPastIn hashing amount (lines_of_all so_far.0 ++ lines_of first.text) u =
-      subst (λ (t : Option (List ℕ)). IfSome t (λ text. IsPastIn hashing amount (lines_of_all so_far.0 ++ lines_of text) u)) first.has (past (lines_of_all so_far.0) so_far.2) in
-      past_among hashing amount (lines_of_all so_far.0 ++ lines_of first.text) (lines_of_all first.texts_left) (lines_of_all texts) u
+      let here : IsPastIn mode hashing amount (lines_of_all so_far.0 ++ lines_of first.text) u =
+      subst (λ (t : Option (List ℕ)). IfSome t (λ text. IsPastIn mode hashing amount (lines_of_all so_far.0 ++ lines_of text) u)) first.has (past (lines_of_all so_far.0) so_far.2) in
+      past_among mode hashing amount (lines_of_all so_far.0 ++ lines_of first.text) (lines_of_all first.texts_left) (lines_of_all texts) u
       (append_assoc (lines_of_all so_far.0) (lines_of first.text) (lines_of_all first.texts_left) ∙ sym (all_parted so_far.0 first.text first.texts_left) ∙ ap lines_of_all (sym (so_far.1 ∙ ap (λ ts. so_far.0 ++ ts) first.parted)))
       here
 

@@ -8,6 +8,7 @@ use Rattle.core_slots.specs.declared.entry.TupleEntry.{TupleEntry}
 use Rattle.keys_lines.specs.Lines.{lines_of}
 use Rattle.keys_lines.specs.declared.key.Hashing.{Hashing}
 use Rattle.tuple_sketches.specs.Image.{Reads, IsReadable, BeginsWith, written}
+use Rattle.tuple_sketches.specs.declared.numbers.SummaryMode.{SummaryMode}
 use Rattle.keys_sketches.specs.Shards.{AreReadBy}
 use Rattle.keys_sums.specs.Sums.{sketch_of_sums}
 
@@ -36,18 +37,18 @@ abbrev pub AreReadSums : (seed : ℕ) → (images : List (List ℕ)) → List (C
 AreReadSums seed images sketches = AreReadBy (ReadsSumsUnder seed) images sketches
 
 -- the image of the sums of lines
-abbrev pub image_of_sums : Hashing → (amount : List ℕ → ℕ) → (lg_k : ℕ) → List (List ℕ) → List ℕ
-image_of_sums hashing amount lg_k lines = written_sums (sketch_of_sums hashing amount lg_k lines)
+abbrev pub image_of_sums : SummaryMode → Hashing → (amount : List ℕ → ℕ) → (lg_k : ℕ) → List (List ℕ) → List ℕ
+image_of_sums mode hashing amount lg_k lines = written_sums (sketch_of_sums mode hashing amount lg_k lines)
 
 -- an image is read as the sketch of the sums of a text's lines, with at least 2^lg_k nominal entries
-abbrev pub IsImageOfText : Hashing → (amount : List ℕ → ℕ) → (lg_k : ℕ) → (image text : List ℕ) → Type 0
-IsImageOfText hashing amount lg_k image text =
-    (own : ℕ) × (lg_k ≤ own) × ReadsSums image (seed_hash hashing.seed) (sketch_of_sums hashing amount own (lines_of text))
+abbrev pub IsImageOfText : SummaryMode → Hashing → (amount : List ℕ → ℕ) → (lg_k : ℕ) → (image text : List ℕ) → Type 0
+IsImageOfText mode hashing amount lg_k image text =
+    (own : ℕ) × (lg_k ≤ own) × ReadsSums image (seed_hash hashing.seed) (sketch_of_sums mode hashing amount own (lines_of text))
 
 -- .. each image of its own text
-abbrev pub AreImagesOfTexts : Hashing → (amount : List ℕ → ℕ) → (lg_k : ℕ) → (images texts : List (List ℕ)) → Type 0
-AreImagesOfTexts hashing amount lg_k [] [] = ⊤
-AreImagesOfTexts hashing amount lg_k (image ∷ images) (text ∷ texts) =
-    IsImageOfText hashing amount lg_k image text × AreImagesOfTexts hashing amount lg_k images texts
-AreImagesOfTexts hashing amount lg_k [] (text ∷ texts) = ⊥
-AreImagesOfTexts hashing amount lg_k (image ∷ images) [] = ⊥
+abbrev pub AreImagesOfTexts : SummaryMode → Hashing → (amount : List ℕ → ℕ) → (lg_k : ℕ) → (images texts : List (List ℕ)) → Type 0
+AreImagesOfTexts mode hashing amount lg_k [] [] = ⊤
+AreImagesOfTexts mode hashing amount lg_k (image ∷ images) (text ∷ texts) =
+    IsImageOfText mode hashing amount lg_k image text × AreImagesOfTexts mode hashing amount lg_k images texts
+AreImagesOfTexts mode hashing amount lg_k [] (text ∷ texts) = ⊥
+AreImagesOfTexts mode hashing amount lg_k (image ∷ images) [] = ⊥

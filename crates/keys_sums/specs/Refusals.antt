@@ -7,9 +7,11 @@ use Rattle.sketch_base.specs.declared.error.ErrorKind.{ErrorKind}
 use Rattle.sketch_base.specs.declared.error.ErrorKind.TheVariants.{OutOfMemory, Policy}
 use Rattle.keys_lines.specs.Lines.{lines_of}
 use Rattle.keys_lines.specs.declared.key.Hashing.{Hashing}
+use Rattle.tuple_sketches.specs.declared.numbers.SummaryMode.{SummaryMode}
+use Rattle.tuple_sketches.specs.declared.numbers.SummaryMode.TheVariants.{Sum}
 use Rattle.keys_sketches.specs.Refusals.{HasFault}
 use Rattle.keys_sums.specs.Amounts.{amount_in, added_by}
-use Rattle.keys_sums.specs.Sums.{sum_at}
+use Rattle.keys_sums.specs.Sums.{summary_at}
 use Rattle.keys_sums.specs.declared.addends.Amount.{Amount}
 use Rattle.keys_sums.specs.declared.addends.Amount.TheVariants.{One}
 use Rattle.keys_sums.specs.declared.summing.SumError.{SumError}
@@ -73,9 +75,9 @@ abbrev pub LacksNumberOf : Amount → (texts : List (List ℕ)) → SumError →
 LacksNumberOf amount texts (NotANumber number) = HasFault (λ text. HasNoNumberAt amount number (lines_of text)) texts
 LacksNumberOf amount texts sum_error = ⊤
 
--- the sum of what the lines of some hash add is 2^64 or more
-abbrev pub IsPast : Hashing → (amount : List ℕ → ℕ) → (lines : List (List ℕ)) → Type 0
-IsPast hashing amount lines = (h : ℕ) × (2 ^ 64 ≤ sum_at hashing amount lines h)
+-- the mode adds, and the sum of what the lines of some hash add is 2^64 or more
+abbrev pub IsPast : SummaryMode → Hashing → (amount : List ℕ → ℕ) → (lines : List (List ℕ)) → Type 0
+IsPast mode hashing amount lines = (mode ≡ Sum) × ((h : ℕ) × (2 ^ 64 ≤ summary_at Sum hashing amount lines h))
 
 -- a sum is reported to be 2^64 or more only if the policy refused it
 abbrev pub IsByPolicy : ErrorKind → SumError → Type 0
@@ -83,9 +85,9 @@ IsByPolicy kind (PastGreatest number) = kind ≡ Policy
 IsByPolicy kind sum_error = ⊤
 
 -- a sum is reported to be 2^64 or more only if a sum of these lines is
-abbrev pub IsPastIn : Hashing → Amount → (lines : List (List ℕ)) → SumError → Type 0
-IsPastIn hashing amount lines (PastGreatest number) = IsPast hashing (added_by amount) lines
-IsPastIn hashing amount lines sum_error = ⊤
+abbrev pub IsPastIn : SummaryMode → Hashing → Amount → (lines : List (List ℕ)) → SumError → Type 0
+IsPastIn mode hashing amount lines (PastGreatest number) = IsPast mode hashing (added_by amount) lines
+IsPastIn mode hashing amount lines sum_error = ⊤
 
 -- a text is reported to have failed only if it may fail
 abbrev pub FailsIf : (may_fail : Bool) → SumError → Type 0

@@ -1,5 +1,7 @@
 //! How many keys have their sum in each bin: 1, 2, 3 to 4, 5 to 8, and so on.
 ghost use Rattle.std.specs.Prelude.{◌≡◌, ◌<◌, ◌^◌, length};
+ghost use Rattle.core_compact.specs.CompactState.{IsCompact};
+ghost use Rattle.core_slots.specs.Entry.{tuple_key};
 ghost use Rattle.keys_sums.specs.Bins.{least_of, greatest_of, is_in, greatest, sums_in, keys_in};
 
 use std::alloc::Allocator;
@@ -52,9 +54,8 @@ pub fn count_in<A: Allocator>(sketch: &CompactTupleSketch<u64, A>, bin: u32) -> 
     requires { bin < 65 }
     ensures counted { result ≡ length (keys_in bin sketch.now).entries }
     ensures limited { result < 2 ^ 32 }
+    ensures sound { IsCompact tuple_key sketch.now }
 {
-    // By its contract there are fewer than 2^32 entries.
-    let _ = sketch.num_retained();
     let mut count = 0usize;
     for entry in sketch.iter() {
         if is_in(bin, *entry.summary()) {

@@ -23,8 +23,6 @@ pub fn sums_image<A: Allocator + Clone + Drop>(
     ensures refused { Refuses result None true }
 {
     read_again::<u64, A>();
-    // Its contract says that the sketch keeps its laws.
-    let _ = sketch.num_retained();
     sketch.serialize()
 }
 

@@ -7,6 +7,7 @@ ghost use Rattle.core_slots.specs.declared.entry.TupleEntry.{TupleEntry};
 ghost use Rattle.keys_sketches.specs.Header.{MayBeRead, sums_count, sums_flaw_of};
 ghost use Rattle.keys_lines.specs.declared.key.Hashing.{Hashing};
 ghost use Rattle.totals.specs.Totals.{sum_of, total_of};
+ghost use Rattle.tuple_sketches.specs.declared.numbers.SummaryMode.TheVariants.{Sum};
 ghost use Rattle.keys_sums.specs.Bins.{is_in, IsInOneBin, HasNumber};
 ghost use Rattle.keys_sums.specs.Images.{AreReadableSums, BeginsWithSums, ReadsSums};
 ghost use Rattle.keys_sums.specs.Sums.{sum_below, sketch_of_sums};
@@ -17,12 +18,12 @@ ghost use Rattle.keys_sums.specs.declared.bins.TheConstants.{BINS};
 pub fn sums_are_of_lines_below_theta()
     ensures retained { (hashing : Hashing) (amount : List ℕ → ℕ) (lg_k : ℕ) (lines : List (List ℕ))
         → lg_k ≤ 26
-        → sum_of (sketch_of_sums hashing amount lg_k lines).entries
-        ≡ sum_below hashing amount (sketch_of_sums hashing amount lg_k lines).theta lines }
+        → sum_of (sketch_of_sums Sum hashing amount lg_k lines).entries
+        ≡ sum_below hashing amount (sketch_of_sums Sum hashing amount lg_k lines).theta lines }
     ensures exact { (hashing : Hashing) (amount : List ℕ → ℕ) (lg_k : ℕ) (lines : List (List ℕ))
         → lg_k ≤ 26
-        → (total_of (sketch_of_sums hashing amount lg_k lines)).exact ≡ true
-        → (total_of (sketch_of_sums hashing amount lg_k lines)).total ≡ sum_below hashing amount MAX_THETA lines }
+        → (total_of (sketch_of_sums Sum hashing amount lg_k lines)).exact ≡ true
+        → (total_of (sketch_of_sums Sum hashing amount lg_k lines)).total ≡ sum_below hashing amount MAX_THETA lines }
 {}
 
 /// Bytes that are read as a sketch of sums begin with an image of `keys_sketches::sums_length` bytes, which alone is

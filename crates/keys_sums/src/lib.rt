@@ -1,5 +1,5 @@
 //! Sums of lines by their keys: how often each key comes, and how many keys come how often; or the sum of the numbers
-//! in a field of each key's lines.
+//! in a field of each key's lines, or the least or the greatest of them (`SummaryMode`).
 //!
 //! A sketch of sums retains the same hashes as the theta sketch of the same lines, and beside each the sum of what
 //! all lines of that hash add: its number of lines, if each adds one. No line of a retained hash is missed, however
@@ -12,7 +12,7 @@
 //!
 //! ```
 //! let hashing = Hashing { key: Key::Line, seed: 9001 };
-//! let visits = sum_sources(alloc, hashing, Amount::One, 12, &mut sources)?;
+//! let visits = sum_sources(alloc, SummaryMode::Sum, hashing, Amount::One, 12, &mut sources)?;
 //! let from_five_to_eight = count_in(&visits.sketch, 3);
 //! let lines = visits.total;
 //! ```
@@ -34,4 +34,5 @@ pub use images::{read_sums, sums_image};
 pub use operands::all_sums;
 pub use sources::sum_sources;
 pub use summing::{SumError, SumSketch, Summation, SumsOfLines, add_lines};
+pub use tuple_sketches::SummaryMode;
 pub use uniting::{UnionOfSums, union_of_sums, unite_sums};

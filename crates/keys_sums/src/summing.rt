@@ -1,4 +1,4 @@
-//! Sketches of sums of the lines of a reader.
+//! Sketches of sums of the lines of a reader, or of the least or the greatest of what the lines of a key add.
 ghost use Rattle.std.specs.Prelude.{◌≡◌, ◌<◌, ◌++◌, ◌∷◌, ℕ, Bool, List, [], length, min, IfOk, IfErr, OnOk, IfSome};
 ghost use Rattle.std.specs.Prelude.{None, Some, true};
 ghost use Rattle.sketch_base.specs.declared.error.ErrorKind.TheVariants.{Policy};
@@ -14,6 +14,7 @@ ghost use Rattle.keys_sums.specs.Reading.{HasTaken, AddsLines, AddsText, Reports
 ghost use Rattle.keys_sums.specs.Refusals.{FailsIf, IsAddRefusal, IsByPolicy, IsLastingFailure, IsPast, IsSumError};
 ghost use Rattle.keys_sums.specs.Refusals.{LacksNumber, LacksNumberAt, LacksNumberIn, RefusesSums};
 ghost use Rattle.keys_sums.specs.declared.addends.Amount.{Amount};
+ghost use Rattle.tuple_sketches.specs.declared.numbers.SummaryMode.{SummaryMode};
 
 use crate::addends::{Amount, OpenAddend};
 use keys_lines::{Hashing, cut_line};
@@ -22,10 +23,12 @@ use sketch_base::{Error, ErrorKind};
 use std::alloc::{AllocError, Allocator, Global};
 use std::io;
 use std::marker::Model;
-use tuple_sketches::{CompactTupleSketch, DefaultUpdatePolicy, TupleSketch, TupleSketchBuilder};
+use tuple_sketches::{
+    CompactTupleSketch, NumberPolicy, SummaryMode, TupleSketch, TupleSketchBuilder,
+};
 
-/// A tuple sketch whose summaries are sums of 64 bits.
-pub type SumSketch<A = Global> = TupleSketch<DefaultUpdatePolicy<u64>, A>;
+/// A tuple sketch whose summaries are numbers of 64 bits: sums, or least or greatest numbers.
+pub type SumSketch<A = Global> = TupleSketch<NumberPolicy, A>;
 
 /// Why lines were not summed.
 #[derive(Debug, Drop)]
@@ -34,7 +37,8 @@ pub enum SumError {
     Refused(Error),
     /// A source failed, or couldn't be opened.
     Failed(io::Error),
-    /// The sum of a key would be 2^64 or more with the line of this number, from 1, in its source.
+    /// The mode is `Sum`, and the sum of a key would be 2^64 or more with the line of this number, from 1, in its
+    /// source.
     PastGreatest(u64),
     /// The line of this number, from 1, in its source doesn't add a number: its part is no whole number below 2^64.
     NotANumber(u64),
@@ -61,7 +65,8 @@ impl From<AllocError> for SumError {
     }
 }
 
-/// Lines that are being summed: a sketch of the sums of their keys, and the total of what they add.
+/// Lines that are being summed: a sketch of the sums of their keys, or of the least or the greatest numbers, and the
+/// total of what they add.
 #[derive(Drop)]
 pub struct Summation<A: Allocator + Clone = Global> {
     sketch: SumSketch<A>,
@@ -73,13 +78,13 @@ impl<A: Allocator + Clone> Model for Summation<A> {
 
     ghost Value = { Summed };
 
-    ghost view = { λ s. record { sketch = s.sketch.state; total = s.total } };
+    ghost view = { λ s. record { mode = s.sketch.policy.mode; sketch = s.sketch.state; total = s.total } };
 }
 
 /// The sums of lines: the sketch of those of their keys, and the total.
 #[derive(Drop)]
 pub struct SumsOfLines<A: Allocator = Global> {
-    /// The ordered sketch, in which each retained hash has the sum of what its lines add.
+    /// The ordered sketch, in which each retained hash has the sum, the least or the greatest of what its lines add.
     pub sketch: CompactTupleSketch<u64, A>,
     /// The total of what all lines add, below 2^128, exact however few keys the sketch retains. 2^128 - 1 stands for
     /// any greater total, which takes more than 2^64 lines.
@@ -87,34 +92,37 @@ pub struct SumsOfLines<A: Allocator = Global> {
 }
 
 impl<A: Allocator + Clone> Summation<A> {
-    /// No lines yet, with a sketch of 2^`lg_k` nominal entries under this seed. Refused with `InvalidArgument` for an
-    /// `lg_k` that isn't from 4 to 26 or a seed whose seed hash is 0, and with `OutOfMemory`.
-    pub fn new(alloc: A, seed: u64, lg_k: u8) -> Result<Summation<A>, Error>
+    /// No lines yet, with a sketch of 2^`lg_k` nominal entries under this seed, whose mode says how what the lines of
+    /// a key add is combined. Refused with `InvalidArgument` for an `lg_k` that isn't from 4 to 26 or a seed whose
+    /// seed hash is 0, and with `OutOfMemory`.
+    pub fn new(alloc: A, mode: SummaryMode, seed: u64, lg_k: u8) -> Result<Summation<A>, Error>
         ensures new { (hashing : Hashing) (amount : Amount)
             → hashing.seed ≡ seed
-            → IfOk result (HasAdded hashing amount lg_k []) }
+            → IfOk result (HasAdded mode hashing amount lg_k []) }
         ensures refused { Refuses result (settings_refusal lg_k MAX_THETA seed) true }
     {
-        let sketch = TupleSketchBuilder::new(DefaultUpdatePolicy::<u64>::default())
+        let sketch = TupleSketchBuilder::new(NumberPolicy::new(mode))
             .lg_k(lg_k)
             .seed(seed)
             .build(alloc)?;
         Ok(Summation { sketch, total: 0 })
     }
 
-    /// Adds to the sum of a hash, and to the total. Refused with `OutOfMemory`, and with `Policy` only if the sum of a
-    /// key would be 2^64 or more.
+    /// Adds to the number of a hash by the mode, and to the total. Refused with `OutOfMemory`, and with `Policy` only
+    /// if the mode is `Sum` and the sum of a key would be 2^64 or more.
     fn add(&mut self, hash: u64, value: u64) -> Result<(), Error>
-        ensures added { (hashing : Hashing) (amount : Amount) (lg_k : ℕ) (lines : List (List ℕ)) (line : List ℕ)
+        ensures added { (hashing : Hashing) (amount : Amount) (mode : SummaryMode) (lg_k : ℕ)
+            (lines : List (List ℕ)) (line : List ℕ)
             → hash ≡ line_hash hashing line
             → amount_in amount line ≡ Some value
-            → HasAdded hashing amount lg_k lines self.old
-            → OnOk result (HasAdded hashing amount lg_k (lines ++ line ∷ []) self.new) }
-        ensures past { (hashing : Hashing) (amount : Amount) (lg_k : ℕ) (lines : List (List ℕ)) (line : List ℕ)
+            → HasAdded mode hashing amount lg_k lines self.old
+            → OnOk result (HasAdded mode hashing amount lg_k (lines ++ line ∷ []) self.new) }
+        ensures past { (hashing : Hashing) (amount : Amount) (mode : SummaryMode) (lg_k : ℕ)
+            (lines : List (List ℕ)) (line : List ℕ)
             → hash ≡ line_hash hashing line
             → amount_in amount line ≡ Some value
-            → HasAdded hashing amount lg_k lines self.old
-            → IfErr result (λ e. e ≡ Policy → IsPast hashing (added_by amount) (lines ++ line ∷ [])) }
+            → HasAdded mode hashing amount lg_k lines self.old
+            → IfErr result (λ e. e ≡ Policy → IsPast mode hashing (added_by amount) (lines ++ line ∷ [])) }
         ensures refused { IfErr result IsAddRefusal }
     {
         match self.sketch.update_hash(hash, value) {
@@ -126,14 +134,14 @@ impl<A: Allocator + Clone> Summation<A> {
         }
     }
 
-    /// The sums of the lines so far. The sketch is trimmed, and stays so. Refused only with `OutOfMemory`; then the
+    /// The sketch of the lines so far, and their total. The sketch is trimmed, and stays so. Refused only with `OutOfMemory`; then the
     /// sketch may be trimmed already.
     pub fn finish(&mut self) -> Result<SumsOfLines<A>, Error>
-        ensures sketch { (hashing : Hashing) (amount : Amount) (lg_k : ℕ) (lines : List (List ℕ))
-            → HasAdded hashing amount lg_k lines self.old
-            → IfOk result (λ s. s.sketch ≡ sketch_of_sums hashing (added_by amount) lg_k lines) }
-        ensures total { (hashing : Hashing) (amount : Amount) (lg_k : ℕ) (lines : List (List ℕ))
-            → HasAdded hashing amount lg_k lines self.old
+        ensures sketch { (hashing : Hashing) (amount : Amount) (mode : SummaryMode) (lg_k : ℕ) (lines : List (List ℕ))
+            → HasAdded mode hashing amount lg_k lines self.old
+            → IfOk result (λ s. s.sketch ≡ sketch_of_sums mode hashing (added_by amount) lg_k lines) }
+        ensures total { (hashing : Hashing) (amount : Amount) (mode : SummaryMode) (lg_k : ℕ) (lines : List (List ℕ))
+            → HasAdded mode hashing amount lg_k lines self.old
             → IfOk result (λ s. s.total ≡ min (total_added (added_by amount) lines) GREATEST_TOTAL) }
         ensures refused { Refuses result None true }
     {
@@ -253,11 +261,12 @@ fn take_last<A: Allocator + Clone>(
     add_line(summation, amount, last, count)
 }
 
-/// Adds what each line that a reader has left adds, block by block, to the sum at the line's key. The seed of
-/// `hashing` should be the summation's, which is not checked. An interrupted read is repeated.
+/// Adds what each line that a reader has left adds, block by block, to the number at the line's key, by the
+/// summation's mode. The seed of `hashing` should be the summation's, which is not checked. An interrupted read is
+/// repeated.
 ///
-/// Refused only with `OutOfMemory`. A line that would make a sum 2^64 or more, or that adds no number, is an error
-/// that has its number. A line is reported to add no number only if the line of its number adds none, and a sum to be
+/// Refused only with `OutOfMemory`. A line that would make a sum 2^64 or more, in the mode `Sum`, or that adds no
+/// number, is an error that has its number. A line is reported to add no number only if the line of its number adds none, and a sum to be
 /// 2^64 or more only if one of all lines is. If the reader fails, its error is returned: only if its reads may fail,
 /// so never for a text in memory. After an error some first part of the lines is added; no clause says so.
 ///

@@ -93,6 +93,9 @@ fn put_flags(text: &mut String, options: &Options<'_>) -> Result<(), AllocError>
     if let Some(order) = options.sort {
         write!(text, " sort={order:?}")?;
     }
+    if let Some(mode) = options.summary {
+        write!(text, " summary={mode:?}")?;
+    }
     if options.form != Form::Plain {
         write!(text, " {:?}", options.form)?;
     }

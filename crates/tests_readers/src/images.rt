@@ -114,6 +114,8 @@ fn put_flaw(text: &mut String, flaw: Flaw) -> Result<(), AllocError> {
         Flaw::Image(ImageFlaw::Seed) => "seed",
         Flaw::Image(ImageFlaw::Cut) => "cut",
         Flaw::Image(ImageFlaw::Longer) => "longer",
+        Flaw::Image(ImageFlaw::Malformed) => "malformed",
+        Flaw::Image(ImageFlaw::Theta) => "theta",
         Flaw::Image(ImageFlaw::Damaged) => "damaged",
     };
     text.push_str(word)

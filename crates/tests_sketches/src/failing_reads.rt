@@ -2,7 +2,7 @@
 //! nothing more is read.
 use keys_lines::{Hashing, Key};
 use keys_sketches::{ReadError, TextReader, Watch};
-use keys_sums::{Amount, SumError};
+use keys_sums::{Amount, SumError, SummaryMode};
 use sketch_base::Error;
 use std::alloc::{Allocator, Global};
 use std::io;
@@ -84,7 +84,7 @@ fn sketched(alloc: Global, kind: ErrorKind) -> Result<Ended, Error> {
 
 /// How the lines of a reader that fails once are summed.
 fn summed(alloc: Global, kind: ErrorKind) -> Result<Ended, Error> {
-    let mut summation = keys_sums::Summation::new(alloc, 9001, 12)?;
+    let mut summation = keys_sums::Summation::new(alloc, SummaryMode::Sum, 9001, 12)?;
     let mut reader = FailsOnce { kind, reads: 0 };
     let mut block = [0u8; 64];
     let made = keys_sums::add_lines(&mut summation, LINES, Amount::One, &mut reader, &mut block);

@@ -9,7 +9,7 @@ use Rattle.core_images.specs.Entry.{SpellsHash}
 use Rattle.core_images.specs.Head.{longs_at, version_at, family_at, has_longs, preamble_of, vacant, filled, flagged_head, unflagged_head, version_2_head, theta_head, theta_layout, is_of_seed, IsWholeLayout, count_of}
 use Rattle.core_images.specs.HashSpelling.{hash_long}
 use Rattle.core_images.specs.declared.flaw.Flaw.{Flaw}
-use Rattle.core_images.specs.declared.flaw.Flaw.TheVariants.{Short, Family, Version, Cut, Damaged}
+use Rattle.core_images.specs.declared.flaw.Flaw.TheVariants.{Short, Family, Version, Malformed, Cut}
 use Rattle.core_images.specs.declared.head.Head.{Head}
 use Rattle.core_images.proofs.Fronts.{theta_same, open_alone}
 use Rattle.core_images.proofs.ImageLayouts.{Comes, Heads, IsWholeHead, along, chosen, both_true, not_false, flagged_from, flagged_to, theta_whole, open_from, open_to, layout_whole}
@@ -102,7 +102,7 @@ module _ (bytes : List ℕ) (h : ℕ) where
       let family = family_at bytes in
       let known = leb 1 version && leb version 3 in
       let third = by_version bytes version longs in
-      let second = cond (not (has_longs bytes)) (Err Damaged) third in
+      let second = cond (not (has_longs bytes)) (Err Malformed) third in
       let first = cond (not known) (Err (Version version)) second in
       elim (chosen P (ltb (length bytes) 8) (Err Short) (cond (not (eqb family 3)) (Err (Family family)) first) q) [
         | inl a ↦ absurd a.1
@@ -110,7 +110,7 @@ module _ (bytes : List ℕ) (h : ℕ) where
           | inl f ↦ absurd f.1
           | inr f ↦ elim (chosen P (not known) (Err (Version version)) second f.1) [
             | inl v ↦ absurd v.1
-            | inr v ↦ elim (chosen P (not (has_longs bytes)) (Err Damaged) third v.1) [
+            | inr v ↦ elim (chosen P (not (has_longs bytes)) (Err Malformed) third v.1) [
               | inl l ↦ absurd l.1
               | inr l ↦
                   let whole : 8 ≤ length bytes = grind (arith, nat_tests, a.0) in

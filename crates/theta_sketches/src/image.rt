@@ -2,12 +2,13 @@
 //!
 //! Serial version 3 is written and read. Versions 1 and 2 are only read: they have no flags, and their hashes are
 //! ordered.
-ghost use Rattle.std.specs.Prelude.{◌≡◌, ℕ, None, true, IfOk, IfErr};
-ghost use Rattle.core_compact.specs.CompactState.{Compact};
+ghost use Rattle.std.specs.Prelude.{◌≡◌, ◌<◌, ◌^◌, ℕ, None, true, IfOk, IfErr, OnOk};
+ghost use Rattle.core_compact.specs.CompactState.{Compact, IsCompact};
 ghost use Rattle.sketch_base.specs.Seed.{seed_hash};
 ghost use Rattle.sketch_base.specs.declared.seed.TheConstants.{DEFAULT_UPDATE_SEED};
 ghost use Rattle.core_images.specs.Head.{theta_flaw};
 ghost use Rattle.core_images.specs.Read.{IsRefused, IsUnread};
+ghost use Rattle.core_laws.specs.Entries.{hash_key};
 ghost use Rattle.core_laws.specs.Refusal.{Refuses};
 ghost use Rattle.theta_sketches.specs.Image.{Reads, IsReadable, BeginsWith, written};
 
@@ -25,10 +26,9 @@ impl<A: Allocator + Clone + Drop> CompactThetaSketch<A> {
         ensures ok { IfOk result (λ v. v.items ≡ written self.now) }
         ensures read_back { IfOk result (λ v. (s : Compact ℕ) → Reads v.items self.now.seed_hash s → s ≡ self.now) }
         ensures refused { Refuses result None true }
+        ensures sound { OnOk result (IsCompact hash_key self.now) }
+        ensures short { OnOk result (self.now.seed_hash < 2 ^ 16) }
     {
-        // Called for their clauses alone: the sketch keeps the laws of compact sketches, and its seed hash has 16
-        // bits.
-        let _ = (self.num_retained(), self.seed_hash());
         let alloc = self.state().allocator().clone()?;
         write_image(alloc, self.state(), Family::THETA, 0)
     }

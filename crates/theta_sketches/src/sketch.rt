@@ -1,5 +1,5 @@
 //! Theta sketches that take updates.
-ghost use Rattle.std.specs.Prelude.{◌≡◌, ◌≢◌, ◌≤◌, ◌==◌, ◌&&◌, ◌^◌, ℕ, List, [], ◌∷◌, true, false, not, nat_lt};
+ghost use Rattle.std.specs.Prelude.{◌≡◌, ◌≢◌, ◌<◌, ◌≤◌, ◌==◌, ◌&&◌, ◌^◌, ℕ, List, [], ◌∷◌, true, false, not, nat_lt};
 ghost use Rattle.std.specs.Prelude.{None, length, IfOk, OnOk, OnErr};
 ghost use Rattle.core_compact.specs.CompactState.{IsAnswer};
 ghost use Rattle.core_laws.specs.Entries.{hash_key, hash_step};
@@ -107,7 +107,9 @@ impl<A: Allocator> ThetaSketch<A> {
     /// The estimated number of distinct values seen, as a fraction that is not reduced: the retained hashes times
     /// `MAX_THETA`, below 2^95, over theta, from 1 to `MAX_THETA`; 0 over 1 for an empty sketch.
     pub fn estimate_fraction(&self) -> (u128, u128)
-        ensures { result ≡ fraction_of (sketch_value self.now) }
+        ensures fraction { result ≡ fraction_of (sketch_value self.now) }
+        ensures limited { result.0 < 2 ^ 95 }
+        ensures sound { IsShown (sketch_shows hash_key self.now) }
     {
         self.state.estimate_fraction()
     }

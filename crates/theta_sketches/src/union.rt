@@ -7,6 +7,7 @@ ghost use Rattle.core_compact.specs.CompactState.{IsAnswer};
 ghost use Rattle.core_laws.specs.Entries.{hash_key};
 ghost use Rattle.core_laws.specs.Refusal.{Refuses};
 ghost use Rattle.core_laws.specs.Settings.{settings_refusal};
+ghost use Rattle.core_laws.specs.Shown.{IsShown};
 ghost use Rattle.core_laws.specs.Cuts.{IsRetained};
 ghost use Rattle.core_operators.specs.Union.{Union, empty_union, union_value, update_refusal, lower_refusal};
 ghost use Rattle.core_operators.specs.Union.{lower_allocates, lowered, failure, IsUnion, JoinsHashes, UnitesHashes};
@@ -99,6 +100,7 @@ impl<A: Allocator + Clone> ThetaUnion<A> {
         ensures made_with { OnOk result
             (self.new ≡ record self.old { empty = self.new.empty; content = self.new.content }) }
         ensures accepted { OnOk result (update_refusal self.old (view_shows sketch.entry) ≡ None) }
+        ensures shown { OnOk result (IsShown (view_shows sketch.entry)) }
         ensures given { OnOk result
             ((lg_k k start : ℕ) (hashes more : List ℕ) → IsUnionOf lg_k k start self.old hashes →
             IsPartOf k start (view_value sketch.entry) more → IsUnionOf lg_k k start self.new (hashes ++ more)) }

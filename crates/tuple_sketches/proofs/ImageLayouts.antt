@@ -9,7 +9,7 @@ use Rattle.core_slots.specs.declared.entry.TupleEntry.{TupleEntry}
 use Rattle.core_images.specs.Head.{longs_at, version_at, family_at, type_at, has_longs, flagged_head, tuple_head, tuple_layout, is_tuple_version, is_sketch_type, IsWholeLayout, count_of, length_of}
 use Rattle.core_images.specs.Summary.{SpellsTuple}
 use Rattle.core_images.specs.declared.flaw.Flaw.{Flaw}
-use Rattle.core_images.specs.declared.flaw.Flaw.TheVariants.{Short, Family, Version, Damaged}
+use Rattle.core_images.specs.declared.flaw.Flaw.TheVariants.{Short, Family, Version, Malformed}
 use Rattle.core_images.specs.declared.head.Head.{Head}
 use Rattle.core_images.proofs.Fronts.{tuple_same, open_alone}
 use Rattle.core_images.proofs.ImageLayouts.{Comes, Heads, IsWholeHead, along, chosen, both_true, not_false, flagged_from, flagged_to, tuple_whole, open_from, open_to, layout_whole}
@@ -52,7 +52,7 @@ module _ {S : Type 0} (Spells : List ℕ → S → Type 0) (bytes : List ℕ) (h
       let family = family_at bytes in
       let kind = type_at bytes in
       let known = has_longs bytes && is_sketch_type kind in
-      let last = cond (not known) (Err Damaged) (flagged_head size bytes longs) in
+      let last = cond (not known) (Err Malformed) (flagged_head size bytes longs) in
       let first = cond (not (is_tuple_version version)) (Err (Version version)) last in
       elim (chosen P (ltb (length bytes) 8) (Err Short) (cond (not (eqb family 9)) (Err (Family family)) first) q) [
         | inl a ↦ absurd a.1
@@ -60,7 +60,7 @@ module _ {S : Type 0} (Spells : List ℕ → S → Type 0) (bytes : List ℕ) (h
           | inl f ↦ absurd f.1
           | inr f ↦ elim (chosen P (not (is_tuple_version version)) (Err (Version version)) last f.1) [
             | inl v ↦ absurd v.1
-            | inr v ↦ elim (chosen P (not known) (Err Damaged) (flagged_head size bytes longs) v.1) [
+            | inr v ↦ elim (chosen P (not known) (Err Malformed) (flagged_head size bytes longs) v.1) [
               | inl l ↦ absurd l.1
               | inr l ↦
                   let whole : 8 ≤ length bytes = grind (arith, nat_tests, a.0) in

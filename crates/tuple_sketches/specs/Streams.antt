@@ -29,6 +29,7 @@ pub use Rattle.core_slots.specs.declared.entry.TupleEntry.{TupleEntry}
 pub use Rattle.core_streams.specs.HashSets.{value_hash, set_of}
 pub use Rattle.tuple_sketches.specs.Sketch.{sketch_state, union_state}
 pub use Rattle.tuple_sketches.specs.Given.{Given, nothing, with_value, given_values, hashes_of, united, united_all, shared, shared_by, without}
+pub use Rattle.tuple_sketches.specs.Numbers.{first_number, merged_number, combined_number, adds_number, given_numbers, number_at, least_numbers}
 pub use Rattle.tuple_sketches.specs.Sums.{given_sums, sum_at, least_sums}
 
 -- the k folds of least hash of what was given, below the start, and the theta above them

@@ -128,7 +128,8 @@ impl<S: Drop, A: Allocator> CompactTupleSketch<S, A> {
 
     /// Its entries, in its order: ascending by hash if it is ordered.
     pub fn iter(&self) -> TupleSketchIter<'_, S>
-        ensures { result ≡ record { rest = self.now.entries; counted = true } }
+        ensures listed { result ≡ record { rest = self.now.entries; counted = true } }
+        ensures sound { IsCompact tuple_key self.now }
     {
         EntryIter::of_slice(self.state.retained_entries())
     }

@@ -7,11 +7,12 @@ ghost use Rattle.std.specs.Prelude.{IfOk, IfErr, OnOk};
 ghost use Rattle.std.specs.List.{flat_map};
 ghost use Rattle.sketch_base.specs.Seed.{seed_hash};
 ghost use Rattle.sketch_base.specs.declared.seed.TheConstants.{DEFAULT_UPDATE_SEED};
-ghost use Rattle.core_compact.specs.CompactState.{Compact};
+ghost use Rattle.core_compact.specs.CompactState.{Compact, IsCompact};
 ghost use Rattle.core_images.specs.Head.{tuple_flaw, tuple_head, length_of};
 ghost use Rattle.core_images.specs.Read.{IsRefused, IsUnread};
 ghost use Rattle.core_images.specs.Summary.{SpellsTuple, tuple_text};
 ghost use Rattle.core_laws.specs.Refusal.{Refuses};
+ghost use Rattle.core_slots.specs.Entry.{tuple_key};
 ghost use Rattle.core_slots.specs.declared.entry.TupleEntry.{TupleEntry};
 ghost use Rattle.tuple_sketches.specs.Image.{Reads, IsReadable, BeginsWith, HasValues, written};
 
@@ -85,10 +86,9 @@ impl<S: TupleSummaryValue<A> + Drop, A: Allocator + Clone + Drop> CompactTupleSk
         ensures read_back { IfOk result (λ v.
             (s : Compact (TupleEntry S)) → Reads S.spells v.items self.now.seed_hash s → s ≡ self.now) }
         ensures refused { Refuses result None true }
+        ensures sound { OnOk result (IsCompact tuple_key self.now) }
+        ensures short { OnOk result (self.now.seed_hash < 2 ^ 16) }
     {
-        // Called for their clauses alone: the sketch keeps the laws of compact sketches, and its seed hash has 16
-        // bits.
-        let _ = (self.num_retained(), self.seed_hash());
         let alloc = self.state().allocator().clone()?;
         let capacity = greatest_size::<S, A>(self.state().retained_entries());
         write_image_with_capacity(alloc, self.state(), Family::TUPLE, SKETCH_TYPE, capacity)

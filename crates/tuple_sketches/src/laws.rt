@@ -19,6 +19,8 @@ ghost use Rattle.tuple_sketches.specs.declared.image.TheConstants.{EMPTY_SKETCH_
 ghost use Rattle.core_policies.specs.Sums.{unsigned_sum};
 ghost use Rattle.tuple_sketches.specs.Streams.{Sketch, Given, nothing, with_value, given_values, united};
 ghost use Rattle.tuple_sketches.specs.Streams.{least_folds, given_sums, least_sums, IsPartOf, IsSampleOf};
+ghost use Rattle.tuple_sketches.specs.Streams.{combined_number, given_numbers, least_numbers};
+ghost use Rattle.tuple_sketches.specs.declared.numbers.SummaryMode.{SummaryMode};
 
 use core_images::TupleSummaryValue;
 use core_laws::MAX_THETA;
@@ -126,6 +128,18 @@ pub fn streams_of_sums()
     ensures least { (k start : ℕ) (stream : List (ℕ × ℕ)) (v : Retained (TupleEntry ℕ))
         → unmarked v ≡ least_folds k (given_sums stream) start →
         v ≡ least_sums k stream start }
+{}
+
+/// The same under a policy of numbers of any mode: what two streams give, united, is what both give in turn. The
+/// entries that are retained of the k least folds of a stream, none of them a mark, are its k least hashes, each with
+/// the sum, the least or the greatest of its numbers.
+pub fn streams_of_numbers()
+    ensures united { (mode : SummaryMode) (stream more : List (ℕ × ℕ))
+        → united (combined_number mode) (given_numbers mode stream) (given_numbers mode more)
+        ≡ given_numbers mode (stream ++ more) }
+    ensures least { (mode : SummaryMode) (k start : ℕ) (stream : List (ℕ × ℕ)) (v : Retained (TupleEntry ℕ))
+        → unmarked v ≡ least_folds k (given_numbers mode stream) start →
+        v ≡ least_numbers mode k stream start }
 {}
 
 /// A part samples what was given, and a part for some k is one for fewer.

@@ -62,6 +62,18 @@
 //! let all_together = union.to_sketch(true)?;
 //! ```
 //!
+//! The greatest number of each key, in a sketch and in a union of sketches, by one policy:
+//!
+//! ```
+//! let greatest = NumberPolicy::new(SummaryMode::Max);
+//! let mut sketch = TupleSketchBuilder::new(greatest).build(alloc)?;
+//! sketch.update("/index.html", 12)?;
+//! sketch.update("/index.html", 9)?;
+//! let mut union = TupleUnionBuilder::new(greatest).build(alloc)?;
+//! union.update(sketch.as_view())?;
+//! let slowest = union.to_sketch(true)?;
+//! ```
+//!
 //! To bytes and back, for summaries that implement `TupleSummaryValue`:
 //!
 //! ```
@@ -76,6 +88,7 @@ mod compact_sketch;
 mod image;
 mod intersection;
 pub mod laws;
+mod numbers;
 mod operands;
 mod sketch;
 mod union;
@@ -98,6 +111,7 @@ pub use image::{
     EMPTY_SKETCH_BYTES, SERIAL_VERSION, SERIAL_VERSION_LEGACY, SKETCH_TYPE, SKETCH_TYPE_LEGACY,
 };
 pub use intersection::TupleIntersection;
+pub use numbers::{NumberPolicy, SummaryMode};
 pub use sketch::TupleSketch;
 pub use sketch_base::{DEFAULT_UPDATE_SEED, Error, ErrorKind, MurmurHash3X64128};
 pub use union::TupleUnion;

@@ -4,6 +4,7 @@ ghost use Rattle.std.specs.Prelude.{◌≡◌, ◌||◌, ◌^◌, [], ◌∷◌,
 ghost use Rattle.core_laws.specs.Cuts.{IsRetained};
 ghost use Rattle.core_laws.specs.Entries.{ClonesEqual};
 ghost use Rattle.core_laws.specs.Refusal.{Refuses};
+ghost use Rattle.core_laws.specs.Shown.{IsShown};
 ghost use Rattle.core_operators.specs.ANotB.{difference_refusal, IsDifference};
 ghost use Rattle.core_operators.specs.Intersection.{intersect_refusal, IsIntersection, IsMet, content_of};
 ghost use Rattle.core_operators.specs.Intersection.{IsIntersectError};
@@ -38,6 +39,7 @@ where
         UnitesShown E.key (P.merges union.old.policy) (P.refuses union.old.policy) union.old union.new
         (shows E.key view.entry) (sequence view.entry)) }
     ensures accepted { OnOk result (update_refusal union.old (shows E.key view.entry) ≡ None) }
+    ensures shown { OnOk result (IsShown (shows E.key view.entry)) }
     ensures refused { IfErr result (
         IsUpdateError E.key (P.refuses union.old.policy) union.old union.new (shows E.key view.entry)
         (sequence view.entry)) }

@@ -137,6 +137,7 @@ impl<P: SummaryPolicy, A: Allocator> TupleSketch<P, A> {
     pub fn iter(&self) -> TupleSketchIter<'_, P::Summary>
         ensures listed { result ≡ record { rest = self.now.state.sequence; counted = false } }
         ensures each_once { IsListing tuple_key self.now.state.map.kept.entries self.now.state.sequence }
+        ensures sound { IsShown (sketch_shows tuple_key self.now.state) }
     {
         self.state.entries()
     }

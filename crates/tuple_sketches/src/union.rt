@@ -5,6 +5,7 @@ ghost use Rattle.sketch_base.specs.Seed.{seed_hash};
 ghost use Rattle.core_compact.specs.CompactState.{IsAnswer};
 ghost use Rattle.core_slots.specs.Entry.{tuple_key};
 ghost use Rattle.core_laws.specs.Settings.{settings_refusal};
+ghost use Rattle.core_laws.specs.Shown.{IsShown};
 ghost use Rattle.core_laws.specs.Cuts.{IsRetained};
 ghost use Rattle.core_laws.specs.Entries.{ClonesEqual};
 ghost use Rattle.core_laws.specs.Refusal.{Refuses};
@@ -105,6 +106,7 @@ impl<P: SummaryCombinePolicy + Drop, A: Allocator + Clone> TupleUnion<P, A> {
             (self.new.state
             ≡ record self.old.state { empty = self.new.state.empty; content = self.new.state.content }) }
         ensures accepted { OnOk result (update_refusal self.old.state (shows tuple_key sketch.entry) ≡ None) }
+        ensures shown { OnOk result (IsShown (shows tuple_key sketch.entry)) }
         ensures given { OnOk result
             ((lg_k k start : ℕ) (given more : Given P.Summary) → IsUnionOf lg_k k start self.old.state given →
             IsPartOf k start (view_value sketch.entry) more →

@@ -1,7 +1,7 @@
 //! The intersection.
 
-use super::own::{entries_at, is_policy, size_of_map, Map};
-use super::policy::{DefaultUnionPolicy, SummaryCombinePolicy};
+use super::own::{entries_at, size_of_map, Map};
+use super::policy::{mode_of, DefaultUnionPolicy, SummaryCombinePolicy};
 use super::view::Viewed;
 use super::{CompactTupleSketch, TupleSketchView};
 use crate::border;
@@ -15,28 +15,14 @@ use std::mem::size_of;
 /// value.
 ///
 /// ```
-/// use kaftanclay::tuple::{DefaultUpdatePolicy, SummaryCombinePolicy, SummaryPolicy};
-/// use kaftanclay::tuple::{TupleIntersection, TupleSketchBuilder};
-///
-/// struct Least;
-/// impl SummaryPolicy for Least {
-///     type Summary = u64;
-///     fn create(&self) -> u64 {
-///         u64::MAX
-///     }
-/// }
-/// impl SummaryCombinePolicy for Least {
-///     fn combine(&self, summary: &mut u64, other: &u64) {
-///         *summary = (*summary).min(*other);
-///     }
-/// }
+/// use kaftanclay::tuple::{DefaultUpdatePolicy, MinPolicy, TupleIntersection, TupleSketchBuilder};
 ///
 /// let mut monday = TupleSketchBuilder::new(DefaultUpdatePolicy::<u64>::default()).build().unwrap();
 /// let mut tuesday = TupleSketchBuilder::new(DefaultUpdatePolicy::<u64>::default()).build().unwrap();
 /// monday.update("ann", 2);
 /// monday.update("bob", 9);
 /// tuesday.update("ann", 3);
-/// let mut both = TupleIntersection::new(Least);
+/// let mut both = TupleIntersection::new(MinPolicy);
 /// both.update(&monday).unwrap();
 /// both.update(&tuesday).unwrap();
 /// let both = both.to_sketch(true).unwrap();
@@ -51,7 +37,7 @@ pub struct TupleIntersection<P: SummaryCombinePolicy> {
 }
 
 enum Store<S> {
-    /// The C library's; then the policy adds numbers, and S is u64.
+    /// The C library's; then the policy has a mode, and S is u64.
     Sums(border::SumsIntersection),
     Own {
         keys: border::Intersection,
@@ -80,10 +66,9 @@ impl<P: SummaryCombinePolicy> TupleIntersection<P> {
     /// `InvalidArgument` if the hash of the seed is 0; `OutOfMemory`.
     pub fn with_seed(policy: P, seed: u64) -> Result<Self, Error> {
         let seed_hash = seed_hash(seed, ErrorKind::InvalidArgument)?;
-        let store = if is_policy::<P, DefaultUnionPolicy<u64>>() {
-            Store::Sums(border::SumsIntersection::intersection(seed)?)
-        } else {
-            Store::Own { keys: border::Intersection::intersection(seed)?, map: Map::new() }
+        let store = match mode_of::<P, DefaultUnionPolicy<u64>>() {
+            Some(mode) => Store::Sums(border::SumsIntersection::by_mode(seed, mode)?),
+            None => Store::Own { keys: border::Intersection::intersection(seed)?, map: Map::new() },
         };
         Ok(Self { store, seed, seed_hash, begun: false, policy })
     }

@@ -2,7 +2,8 @@
 //!
 //! **What is proved.** Sketches of sums, which are those of [`DefaultUpdatePolicy<u64>`] with updates by `u64`, are the
 //! C library's from the first update to the image, as are unions and intersections under [`DefaultUnionPolicy<u64>`]:
-//! hashes, theta and every sum are computed by proved functions, and a sum of 2^64 or more is refused. Of any other
+//! hashes, theta and every sum are computed by proved functions, and a sum of 2^64 or more is refused. So are sketches
+//! of least and greatest values, and unions and intersections that keep these ([`MinPolicy`], [`MaxPolicy`]). Of any other
 //! policy the library decides which hashes are retained, and theta, so estimates, differences and what unions and
 //! intersections retain are proved as those of theta sketches are. The summaries beside these hashes are in a map of
 //! this crate, which calls your policy: that each is what your policy made of the values of its key is tested, not
@@ -38,7 +39,8 @@ pub use self::compact::CompactTupleSketch;
 pub use self::entry::TupleEntry;
 pub use self::intersection::TupleIntersection;
 pub use self::policy::{
-    DefaultUnionPolicy, DefaultUpdatePolicy, SummaryCombinePolicy, SummaryPolicy, SummaryUpdatePolicy,
+    DefaultUnionPolicy, DefaultUpdatePolicy, MaxPolicy, MinPolicy, SummaryCombinePolicy, SummaryPolicy,
+    SummaryUpdatePolicy,
 };
 pub use self::sketch::{TupleSketch, TupleSketchBuilder};
 pub use self::union::{TupleUnion, TupleUnionBuilder};

@@ -1,7 +1,7 @@
 //! Sketches with a policy of your own: a theta sketch of the C library decides which hashes are retained, and a map
 //! keeps their summaries.
 
-use super::policy::{SummaryPolicy, SummaryUpdatePolicy};
+use super::policy::SummaryUpdatePolicy;
 use super::TupleEntry;
 use crate::border::{self, vector, State};
 use crate::error::{must, Error};
@@ -150,9 +150,4 @@ pub(super) fn entries_at<S: Clone>(map: &Map<S>, hashes: &[u64]) -> Result<Vec<T
     let mut entries = vector(hashes.len())?;
     entries.extend(hashes.iter().map(|hash| map[hash].clone()));
     Ok(entries)
-}
-
-/// Whether a policy is the one of this name, whose sums the C library has.
-pub(super) fn is_policy<P: SummaryPolicy, Q: 'static>() -> bool {
-    border::is_same::<P, Q>()
 }

@@ -1,6 +1,6 @@
 //! What becomes of summaries.
 
-use crate::border::{is_same, number_of};
+use crate::border::{is_same, number_of, Mode};
 use std::marker::PhantomData;
 use std::ops::AddAssign;
 
@@ -18,9 +18,9 @@ pub trait SummaryUpdatePolicy<U>: SummaryPolicy {
     /// Updates a summary by a value.
     fn update(&self, summary: &mut Self::Summary, value: U);
 
-    /// The number to add, if this policy adds numbers of 64 bits and the value is one.
+    /// The number for the C library, if that has the sketches of this policy and the value is a number of 64 bits.
     #[doc(hidden)]
-    fn addend(_value: &U) -> Option<u64> {
+    fn number(_value: &U) -> Option<u64> {
         None
     }
 }
@@ -51,7 +51,7 @@ impl<S: Default + AddAssign<U>, U> SummaryUpdatePolicy<U> for DefaultUpdatePolic
     }
 
     #[inline]
-    fn addend(value: &U) -> Option<u64> {
+    fn number(value: &U) -> Option<u64> {
         if is_same::<S, u64>() {
             number_of(value)
         } else {
@@ -77,5 +77,58 @@ impl<S: Default> SummaryPolicy for DefaultUnionPolicy<S> {
 impl<S: Default + for<'a> AddAssign<&'a S>> SummaryCombinePolicy for DefaultUnionPolicy<S> {
     fn combine(&self, summary: &mut S, other: &S) {
         *summary += other;
+    }
+}
+
+macro_rules! extremes {
+    ($($(#[$text:meta])* $name:ident: $first:expr, $kept:ident;)*) => {$(
+        $(#[$text])*
+        #[derive(Debug, Default, Clone, Copy)]
+        pub struct $name;
+
+        impl SummaryPolicy for $name {
+            type Summary = u64;
+
+            fn create(&self) -> u64 {
+                $first
+            }
+        }
+
+        impl SummaryUpdatePolicy<u64> for $name {
+            fn update(&self, summary: &mut u64, value: u64) {
+                *summary = value.$kept(*summary);
+            }
+
+            #[inline]
+            fn number(value: &u64) -> Option<u64> {
+                Some(*value)
+            }
+        }
+
+        impl SummaryCombinePolicy for $name {
+            fn combine(&self, summary: &mut u64, other: &u64) {
+                *summary = (*other).$kept(*summary);
+            }
+        }
+    )*};
+}
+extremes! {
+    /// Keeps the least value of a key, and combines summaries to the least. The sketches are the C library's, and proved.
+    /// `datasketches` has no such policy.
+    MinPolicy: u64::MAX, min;
+    /// Keeps the greatest value of a key, likewise.
+    MaxPolicy: 0, max;
+}
+
+/// The mode of a policy whose sketches the C library has; `A` is the one that adds.
+pub(super) fn mode_of<P: SummaryPolicy, A: 'static>() -> Option<Mode> {
+    if is_same::<P, A>() {
+        Some(Mode::Sum)
+    } else if is_same::<P, MinPolicy>() {
+        Some(Mode::Min)
+    } else if is_same::<P, MaxPolicy>() {
+        Some(Mode::Max)
+    } else {
+        None
     }
 }

@@ -1,7 +1,7 @@
 //! The sketch that takes updates, and its builder.
 
-use super::own::{entries_at, is_policy, OwnSketch};
-use super::policy::{DefaultUpdatePolicy, SummaryPolicy, SummaryUpdatePolicy};
+use super::own::{entries_at, OwnSketch};
+use super::policy::{mode_of, DefaultUpdatePolicy, SummaryPolicy, SummaryUpdatePolicy};
 use super::sums::SumsSketch;
 use super::view::Viewed;
 use super::{CompactTupleSketch, TupleEntry, TupleSketchView};
@@ -46,7 +46,7 @@ pub struct TupleSketch<P: SummaryPolicy> {
 }
 
 enum Store<S> {
-    /// The C library's; then the policy adds numbers, and S is u64.
+    /// The C library's; then the policy has a mode, and S is u64.
     Sums(SumsSketch),
     Own(OwnSketch<S>),
 }
@@ -104,7 +104,7 @@ impl<P: SummaryPolicy> TupleSketch<P> {
         P: SummaryUpdatePolicy<U>,
     {
         let key = Gathered::of(key);
-        if let (Store::Sums(sketch), Some(number)) = (&mut self.store, P::addend(&value)) {
+        if let (Store::Sums(sketch), Some(number)) = (&mut self.store, P::number(&value)) {
             return sketch.changed().add_bytes(key.bytes(), number);
         }
         self.update_own(border::hash_of_bytes(self.settings.seed, key.bytes()), value)
@@ -134,7 +134,7 @@ impl<P: SummaryPolicy> TupleSketch<P> {
     where
         P: SummaryUpdatePolicy<U>,
     {
-        if let (Store::Sums(sketch), Some(number)) = (&mut self.store, P::addend(&value)) {
+        if let (Store::Sums(sketch), Some(number)) = (&mut self.store, P::number(&value)) {
             return sketch.changed().add_hash(hash, number);
         }
         self.update_own(hash, value)
@@ -154,7 +154,7 @@ impl<P: SummaryPolicy> TupleSketch<P> {
         }
     }
 
-    /// Goes on with a map, since a value isn't a number that the C library can add.
+    /// Goes on with a map, since a value isn't a number of the C library.
     #[cold]
     fn leave_sums(&mut self) -> Result<(), Error> {
         if let Store::Sums(sketch) = &self.store {
@@ -321,10 +321,9 @@ impl<P: SummaryPolicy> TupleSketchBuilder<P> {
     /// `InvalidArgument` if a setting is out of range or the hash of the seed is 0; `OutOfMemory`.
     pub fn build(self) -> Result<TupleSketch<P>, Error> {
         let settings = self.settings.checked()?;
-        let store = if is_policy::<P, DefaultUpdatePolicy<u64>>() {
-            Store::Sums(SumsSketch::new(settings)?)
-        } else {
-            Store::Own(OwnSketch::new(settings)?)
+        let store = match mode_of::<P, DefaultUpdatePolicy<u64>>() {
+            Some(mode) => Store::Sums(SumsSketch::new(settings, mode)?),
+            None => Store::Own(OwnSketch::new(settings)?),
         };
         Ok(TupleSketch { store, settings, policy: self.policy })
     }

@@ -1,7 +1,7 @@
-//! Sketches of sums that are the C library's, and the entries that are lent of them.
+//! Sketches of sums, least or greatest values that are the C library's, and the entries that are lent of them.
 
 use super::TupleEntry;
-use crate::border::{self, vector, Object, Summed};
+use crate::border::{self, vector, Mode, Object, Summed};
 use crate::error::Error;
 use crate::settings::Checked;
 use std::sync::OnceLock;
@@ -15,9 +15,9 @@ pub(super) struct SumsSketch {
 }
 
 impl SumsSketch {
-    pub(super) fn new(settings: Checked) -> Result<Self, Error> {
-        let object = border::Sums::new(settings.lg_k, settings.seed, settings.factor, settings.start)
-            .map_err(|error| settings.refusal(error))?;
+    pub(super) fn new(settings: Checked, mode: Mode) -> Result<Self, Error> {
+        let Checked { lg_k, factor, start, seed } = settings;
+        let object = border::Sums::new(lg_k, seed, factor, start, mode).map_err(|error| settings.refusal(error))?;
         Ok(Self { object, settings, entries: OnceLock::new() })
     }
 

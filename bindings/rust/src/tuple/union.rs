@@ -1,7 +1,7 @@
 //! The union, and its builder.
 
-use super::own::{entries_at, is_policy, size_of_map, Map};
-use super::policy::{DefaultUnionPolicy, SummaryCombinePolicy};
+use super::own::{entries_at, size_of_map, Map};
+use super::policy::{mode_of, DefaultUnionPolicy, SummaryCombinePolicy};
 use super::view::Viewed;
 use super::{CompactTupleSketch, TupleSketchView};
 use crate::border;
@@ -34,7 +34,7 @@ pub struct TupleUnion<P: SummaryCombinePolicy> {
 }
 
 enum Store<S> {
-    /// The C library's; then the policy adds numbers, and S is u64.
+    /// The C library's; then the policy has a mode, and S is u64.
     Sums(border::SumsUnion),
     Own(OwnUnion<S>),
 }
@@ -201,8 +201,8 @@ impl<P: SummaryCombinePolicy> TupleUnionBuilder<P> {
     pub fn build(self) -> Result<TupleUnion<P>, Error> {
         let settings = self.settings.checked()?;
         let Checked { lg_k, factor, start, seed } = settings;
-        let store = if is_policy::<P, DefaultUnionPolicy<u64>>() {
-            let object = border::SumsUnion::union(lg_k, seed, factor, start);
+        let store = if let Some(mode) = mode_of::<P, DefaultUnionPolicy<u64>>() {
+            let object = border::SumsUnion::by_mode(lg_k, seed, factor, start, mode);
             Store::Sums(object.map_err(|error| settings.refusal(error))?)
         } else {
             let keys = border::Union::union(lg_k, seed, factor, start).map_err(|error| settings.refusal(error))?;

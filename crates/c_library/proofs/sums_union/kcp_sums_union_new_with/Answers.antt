@@ -7,17 +7,18 @@ use Rattle.c_objects.specs.Settings.{valid_factor}
 use Rattle.c_objects.specs.Status.{IsRefusal}
 use Rattle.c_objects.specs.SumsUnion.{IsNewSumsUnion}
 use Rattle.c_objects.specs.declared.sums_union.SeededSumsUnion.{SeededSumsUnion}
+use Rattle.tuple_sketches.specs.declared.numbers.SummaryMode.TheVariants.{Sum}
 use Rattle.c_library.proofs.Filled.{filled}
 use Rattle.c_library.proofs.sums_union.kcp_sums_union_new_with.Goals as goal
 
 pub returns-in-Some : goal.returns-in-Some
 returns-in-Some c =
     let refusal = settings_refusal c.args.lg_k c.args.starting_theta c.args.seed in
-    let put = filled c.build.result (IsNewSumsUnion c.args.lg_k c.args.starting_theta c.args.seed) refusal c.owned.result.now.value c.put.result c.put.new.self.value in
+    let put = filled c.build.result (IsNewSumsUnion Sum c.args.lg_k c.args.starting_theta c.args.seed) refusal c.owned.result.now.value c.put.result c.put.new.self.value in
     let same = ap (λ o. o.value) c.owned.ensures.same in
     let made =
-    subst (λ (o : Option SeededSumsUnion). Fills (IsNewSumsUnion c.args.lg_k c.args.starting_theta c.args.seed) (IsRefusal refusal true) o c.put.result c.put.new.self.value) same
+    subst (λ (o : Option SeededSumsUnion). Fills (IsNewSumsUnion Sum c.args.lg_k c.args.starting_theta c.args.seed) (IsRefusal refusal true) o c.put.result c.put.new.self.value) same
     (put c.build.ensures.made c.build.ensures.refused c.put.ensures) in
     let valid : true ≡ is_some (valid_factor c.args.resize_factor) = ap (λ (o : Option ℕ). is_some o) c.in-Some.ensures in
-    subst (λ (b : Bool). Fills (IsNewSumsUnion c.args.lg_k c.args.starting_theta c.args.seed) (IsRefusal (if b then refusal else Some InvalidArgument) true)
+    subst (λ (b : Bool). Fills (IsNewSumsUnion Sum c.args.lg_k c.args.starting_theta c.args.seed) (IsRefusal (if b then refusal else Some InvalidArgument) true)
     c.args.union.now.value c.put.result c.put.new.self.value) valid made

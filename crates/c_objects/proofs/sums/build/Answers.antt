@@ -13,5 +13,5 @@ returns-clause-made c =
     let accepted : settings_refusal lg_k start seed ≡ None = search rules in
     let nonzero : 0 < seed_hash seed = seeded lg_k start seed accepted in
     let none : IsSketchOf lg_k start seed s nothing = search rules in
-    let given : IsSumsOf lg_k start seed s [] = bare lg_k start seed s none in
+    let given : IsSumsOf c.args.mode lg_k start seed s [] = bare c.args.mode lg_k start seed s none in
     search (rules, nonzero, given)

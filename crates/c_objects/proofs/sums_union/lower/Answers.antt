@@ -5,7 +5,7 @@ use Rattle.core_operators.specs.Union.{union_value, lower_refusal, lower_allocat
 use Rattle.c_objects.specs.Status.{status_of, IsRefusal}
 use Rattle.c_objects.specs.SumsStreams.{GivesLoweredSums}
 use Rattle.c_objects.specs.SumsUnion.{sums_union_of}
-use Rattle.tuple_sketches.specs.Streams.{given_sums}
+use Rattle.tuple_sketches.specs.Streams.{given_numbers}
 use Rattle.c_objects.proofs.Lowering.{accepted, same_refusal, same_request}
 use Rattle.c_objects.proofs.sums_union.lower.Goals as goal
 
@@ -15,7 +15,7 @@ returns-in-Ok c =
     let same : c.bounded_lg_k.result ≡ c.args.lg_k = accepted u e.sound c.args.lg_k c.bounded_lg_k.result b.valid b.great e.refused in
     let lower =
     subst (λ (n : ℕ). (lower_refusal u n ≡ None) × (new ≡ lowered tuple_key n u) × (union_value tuple_key new ≡ cut_value tuple_key (2 ^ n) (union_value tuple_key u)) × GivesLoweredSums n u new) same
-    (e.refused, e.after, e.value, λ nominal k less start stream is fewer enough. e.given nominal k less start (given_sums stream) is fewer enough) in
+    (e.refused, e.after, e.value, λ mode nominal k less start stream is fewer enough. e.given nominal k less start (given_numbers mode stream) is fewer enough) in
     (refl, (λ ok. lower), (λ failed. absurd (failed refl)))
 
 pub returns-in-Err : goal.returns-in-Err

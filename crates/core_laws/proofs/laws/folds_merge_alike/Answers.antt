@@ -5,7 +5,7 @@ pub returns-clause-commute : goal.returns-clause-commute
 returns-clause-commute g c = λ key merges refuses. folds_commute key merges refuses
 
 pub returns-clause-associate : goal.returns-clause-associate
-returns-clause-associate g c = λ key merges refuses. folds_associate key merges refuses
+returns-clause-associate g c = λ m refuses. folds_associate m.key m.merges refuses m.keeps
 
 pub returns-clause-idempotent : goal.returns-clause-idempotent
 returns-clause-idempotent g c = λ key merges refuses. folds_idempotent key merges refuses

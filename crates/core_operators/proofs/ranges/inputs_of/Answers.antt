@@ -14,7 +14,7 @@ loop-sketch-preserved g c =
     let sketches = c.args.sketches.now in
     let i = c.loop-sketch.sketch-index in
     let s = c.sketch-item.result in
-    let input : IsInput key (shown s) (listing s) = record { lawful = c.metadata.ensures.is_sound; hashes = c.entries.ensures.hashes } in
+    let input : IsInput key (shown s) (listing s) = record { lawful = c.metadata.ensures.is_sound; hashes = g.met.S.EntrySketch.lists s } in
     let shape : drop i sketches ≡ s ∷ drop (i + 1) sketches = drop_more sketches i s c.loop-sketch-test.true ∙ ap (λ x. x ∷ drop (i + 1) sketches) (sym c.sketch-item.is) in
     let known : IsSurvey key shown listing c.args.seed_hash sketches (s ∷ drop (i + 1) sketches) c.loop-sketch.inputs.empty c.loop-sketch.inputs.theta = rw (← shape) c.loop-sketch.invariant.known in
     record {

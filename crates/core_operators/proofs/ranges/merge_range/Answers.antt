@@ -33,7 +33,7 @@ loop-sketch-preserved g c =
     elim c.match-metadata.branch [
       | in-Empty w ↦
           let empty = reported_empty (g.S.KeySketch.shown s) _ w.in-Empty.ensures.metadata in
-          let none : listing s ≡ [] = no_entries key (listing s) (w.entries.ensures.hashes ∙ w.entries.ensures.sound.none empty) in
+          let none : listing s ≡ [] = no_entries key (listing s) (g.met.S.EntrySketch.lists s ∙ c.metadata.ensures.is_sound.none empty) in
           let same : now ≡ before = ap (λ t. t.map) w.table-is in
           record {
             merged = next (ap (λ t. unmarked t.kept) same ∙ ap folded (sym none));

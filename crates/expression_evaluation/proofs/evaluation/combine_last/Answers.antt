@@ -13,8 +13,8 @@ returns-clause-ran g c =
     let first = c.in-Some-pop.first in
     let second = c.in-Some.second in
     let sketch = c.in_ok-sketch.sketch in
-    combined_last f.rules f.listed c.args.lg_k c.args.operator c.args.stack.now.items c.pop.new.self.items c.pop-2.new.self.items c.push.new.self.items first second sketch c.in-Some.ensures.items c.in-Some-pop.ensures.items c.in_ok-push.ensures.items
-    (answer-value f.rules.key (applied f.rules c.args.lg_k c.args.operator (compact_value f.rules.key (f.listed first)) (compact_value f.rules.key (f.listed second))) (seed_hash c.args.seed) true (f.listed sketch) c.in_ok-sketch.ensures.value)
+    combined_last (f.rules c.args.family.now) f.listed c.args.lg_k c.args.operator c.args.stack.now.items c.pop.new.self.items c.pop-2.new.self.items c.push.new.self.items first second sketch c.in-Some.ensures.items c.in-Some-pop.ensures.items c.in_ok-push.ensures.items
+    (answer-value (f.rules c.args.family.now).key (applied (f.rules c.args.family.now) c.args.lg_k c.args.operator (compact_value (f.rules c.args.family.now).key (f.listed first)) (compact_value (f.rules c.args.family.now).key (f.listed second))) (seed_hash c.args.seed) true (f.listed sketch) c.in_ok-sketch.ensures.value)
 
 pub returns-in_err-sketch-clause-refused : goal.returns-in_err-sketch-clause-refused
 returns-in_err-sketch-clause-refused g c =
@@ -24,5 +24,5 @@ returns-in_err-sketch-clause-refused g c =
     let second = c.in-Some.second in
     rw (p.1, p.2) (elim c.in_err-sketch.ensures.refused [
       | inl memory ↦ inl memory
-      | inr policy ↦ inr (inr (policy.0, refused_last f.rules f.listed c.args.operator c.args.stack.now.items c.pop.new.self.items c.pop-2.new.self.items first second c.in-Some.ensures.items c.in-Some-pop.ensures.items policy.1))
+      | inr policy ↦ inr (inr (policy.0, refused_last (f.rules c.args.family.now) f.listed c.args.operator c.args.stack.now.items c.pop.new.self.items c.pop-2.new.self.items first second c.in-Some.ensures.items c.in-Some-pop.ensures.items policy.1))
     ])

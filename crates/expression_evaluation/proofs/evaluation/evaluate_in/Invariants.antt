@@ -7,7 +7,7 @@ use Rattle.expression_evaluation.proofs.evaluation.evaluate_in.Given as goal
 abbrev pub invariant-loop-step : goal.invariant-loop-step
 invariant-loop-step g l =
     let f = g.F.SetFamily in record {
-      ordered : AreOrderedSketches f.rules f.listed (seed_hash l.seed) l.stack.items;
-      ran : after_steps f.rules l.lg_k (values_by f.rules f.named l.sketches) l.steps (Some []) ≡ after_steps f.rules l.lg_k (values_by f.rules f.named l.sketches) (drop l.step-index l.steps) (Some (values_onto f.rules f.listed l.stack.items []));
-      refusals : MayRefuse f.rules l.lg_k (values_by f.rules f.named l.sketches) (drop l.step-index l.steps) (Some (values_onto f.rules f.listed l.stack.items [])) → MayRefuse f.rules l.lg_k (values_by f.rules f.named l.sketches) l.steps (Some []);
+      ordered : AreOrderedSketches (f.rules l.family) f.listed (seed_hash l.seed) l.stack.items;
+      ran : after_steps (f.rules l.family) l.lg_k (values_by (f.rules l.family) f.named l.sketches) l.steps (Some []) ≡ after_steps (f.rules l.family) l.lg_k (values_by (f.rules l.family) f.named l.sketches) (drop l.step-index l.steps) (Some (values_onto (f.rules l.family) f.listed l.stack.items []));
+      refusals : MayRefuse (f.rules l.family) l.lg_k (values_by (f.rules l.family) f.named l.sketches) (drop l.step-index l.steps) (Some (values_onto (f.rules l.family) f.listed l.stack.items [])) → MayRefuse (f.rules l.family) l.lg_k (values_by (f.rules l.family) f.named l.sketches) l.steps (Some []);
     }

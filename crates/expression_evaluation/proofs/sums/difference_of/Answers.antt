@@ -10,7 +10,7 @@ use Rattle.expression_evaluation.proofs.TwoSketches.{difference_value, same_answ
 use Rattle.expression_evaluation.proofs.sums.difference_of.Goals as goal
 
 pub returns-clause-value : goal.returns-clause-value
-returns-clause-value g c =
+returns-clause-value g c = λ mode.
     let one = c.as_view.result in
     let two = c.as_view-2.result in
     let first = c.args.first in

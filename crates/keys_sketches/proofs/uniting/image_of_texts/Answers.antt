@@ -29,7 +29,7 @@ loop-text-preserved g c =
             (images_of_texts c.args.hashing c.args.lg_k (map (λ (v : Vec ℕ Global). v.items) c.args.texts.now)) inv.1 c.in-Some.ensures.cases.0 is,
         c.in_ok-add_image.ensures.united c.args.lg_k inv.0 inv.2,
       );
-      ready = c.in_ok-add_image.ensures.ready c.loop-text.invariant.ready;
+      ready = c.in_ok-add_image.ensures.ready c.args.lg_k c.loop-text.invariant.ready;
     }
 
 pub returns-in_err-add_image-clause-refused : goal.returns-in_err-add_image-clause-refused
@@ -38,7 +38,7 @@ returns-in_err-add_image-clause-refused g c =
     let p = err_from_is_err_and result c.from_residual-in_err-add_image.ensures.1 in
     let is = c.as_slice-in-Some.ensures.value ∙ c.in_ok-image.ensures.image ∙ ap (image_of_text c.args.hashing c.args.lg_k) c.as_slice.ensures.value in
     refuses_memory result (settings_refusal c.args.lg_k MAX_THETA c.args.hashing.seed) p.0 p.1
-    (p.2 ∙ text_refused c.read_again.ensures c.args.hashing c.args.lg_k c.in-Some.text.now.items c.as_slice-in-Some.result.now c.in_err-add_image.field-0.0 c.in_ok-union.ensures.refused is (c.in_err-add_image.ensures.refused c.loop-text.invariant.ready))
+    (p.2 ∙ text_refused c.read_again.ensures c.args.hashing c.args.lg_k c.in-Some.text.now.items c.as_slice-in-Some.result.now c.in_err-add_image.field-0.0 c.in_ok-union.ensures.refused is (c.in_err-add_image.ensures.refused c.args.lg_k c.loop-text.invariant.ready))
 
 pub returns : goal.returns
 returns g c = record {

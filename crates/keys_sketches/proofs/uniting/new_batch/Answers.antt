@@ -8,4 +8,4 @@ returns-clause-united g c = c.new.ensures.united c.args.seed c.args.lg_k [] (not
 pub returns-clause-ready : goal.returns-clause-ready
 returns-clause-ready g c =
     let made = c.in_ok-union.ensures.made in
-    c.new.ensures.ready c.args.seed (record { sound = ap (λ u. u.failed) made; seeded = ap (λ u. u.seed_hash) made })
+    c.new.ensures.ready c.args.seed c.args.lg_k (record { sound = ap (λ u. u.failed) made; seeded = ap (λ u. u.seed_hash) made })

@@ -10,5 +10,5 @@ use Rattle.keys_sums.proofs.bins.count_in.Goals as goal
 pub loop-entry-init : goal.loop-entry-init
 loop-entry-init g c =
     let entries = c.args.sketch.now.entries in
-    let small : length (filter (λ e. is_in c.args.bin e.summary) entries) < 2 ^ 32 = omega (arith, c.num_retained.ensures.sound.shown.limited, length-map entries tuple_key, length-filter_both (λ e. is_in c.args.bin e.summary) (λ e. not (is_in c.args.bin e.summary)) (λ e. refl) entries) in
+    let small : length (filter (λ e. is_in c.args.bin e.summary) entries) < 2 ^ 32 = omega (arith, c.iter-entry-items.ensures.sound.shown.limited, length-map entries tuple_key, length-filter_both (λ e. is_in c.args.bin e.summary) (λ e. not (is_in c.args.bin e.summary)) (λ e. refl) entries) in
     (search rules, small)

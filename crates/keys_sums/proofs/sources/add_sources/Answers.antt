@@ -13,24 +13,24 @@ use Rattle.keys_sums.proofs.sources.add_sources.Goals as goal
 pub loop-init : goal.loop-init
 loop-init g c = record {
   parted = continues_itself (g.S.Sources.texts c.args.sources.now) (λ taken. Unit {0}) tt;
-  added = λ lg_k has. continues_itself (g.S.Sources.texts c.args.sources.now) (λ taken. HasAdded c.args.hashing c.args.amount lg_k (lines_of_all taken) c.args.summation.now) has;
+  added = λ mode lg_k has. continues_itself (g.S.Sources.texts c.args.sources.now) (λ taken. HasAdded mode c.args.hashing c.args.amount lg_k (lines_of_all taken) c.args.summation.now) has;
 }
 
 pub loop-preserved : goal.loop-preserved
 loop-preserved g c = record {
   parted = continues_next g.S.Source.Read.remaining (λ taken. Unit {0}) (λ taken. Unit {0}) (g.S.Sources.texts c.args.sources.now) (g.S.Sources.texts c.loop.sources) (g.S.Sources.texts c.next_source.new.self)
       c.in-Ok-Some.field-0 c.in-Ok-Some.source c.loop.invariant.parted c.in-Ok-Some.ensures c.in-Ok-Some.field-0-is (λ taken one. if_any (g.S.Source.Read.remaining c.in-Ok-Some.source));
-  added = λ lg_k has.
-      continues_next g.S.Source.Read.remaining (λ taken. HasAdded c.args.hashing c.args.amount lg_k (lines_of_all taken) c.loop.summation) (λ taken. HasAdded c.args.hashing c.args.amount lg_k (lines_of_all taken) c.add_source.new.summation)
-      (g.S.Sources.texts c.args.sources.now) (g.S.Sources.texts c.loop.sources) (g.S.Sources.texts c.next_source.new.self) c.in-Ok-Some.field-0 c.in-Ok-Some.source (c.loop.invariant.added lg_k has) c.in-Ok-Some.ensures c.in-Ok-Some.field-0-is
-      (λ taken so_far. if_some (g.S.Source.Read.remaining c.in-Ok-Some.source) (λ text. HasAdded c.args.hashing c.args.amount lg_k (lines_of_all taken ++ lines_of text) c.add_source.new.summation) (λ text. HasAdded c.args.hashing c.args.amount lg_k (lines_of_all (taken ++ text ∷ [])) c.add_source.new.summation)
-      (λ text now. subst (λ (ls : List (List ℕ)). HasAdded c.args.hashing c.args.amount lg_k ls c.add_source.new.summation) (lines_more taken text) now) (c.in_ok-add_source-in-Ok-Some.ensures.added lg_k (lines_of_all taken) so_far));
+  added = λ mode lg_k has.
+      continues_next g.S.Source.Read.remaining (λ taken. HasAdded mode c.args.hashing c.args.amount lg_k (lines_of_all taken) c.loop.summation) (λ taken. HasAdded mode c.args.hashing c.args.amount lg_k (lines_of_all taken) c.add_source.new.summation)
+      (g.S.Sources.texts c.args.sources.now) (g.S.Sources.texts c.loop.sources) (g.S.Sources.texts c.next_source.new.self) c.in-Ok-Some.field-0 c.in-Ok-Some.source (c.loop.invariant.added mode lg_k has) c.in-Ok-Some.ensures c.in-Ok-Some.field-0-is
+      (λ taken so_far. if_some (g.S.Source.Read.remaining c.in-Ok-Some.source) (λ text. HasAdded mode c.args.hashing c.args.amount lg_k (lines_of_all taken ++ lines_of text) c.add_source.new.summation) (λ text. HasAdded mode c.args.hashing c.args.amount lg_k (lines_of_all (taken ++ text ∷ [])) c.add_source.new.summation)
+      (λ text now. subst (λ (ls : List (List ℕ)). HasAdded mode c.args.hashing c.args.amount lg_k ls c.add_source.new.summation) (lines_more taken text) now) (c.in_ok-add_source-in-Ok-Some.ensures.added mode lg_k (lines_of_all taken) so_far));
 }
 
 pub returns-in-Ok-None-clause-added : goal.returns-in-Ok-None-clause-added
-returns-in-Ok-None-clause-added g c = λ lg_k has.
-    continues_end g.S.Source.Read.remaining (λ taken. HasAdded c.args.hashing c.args.amount lg_k (lines_of_all taken) c.loop.summation) (λ taken. HasAdded c.args.hashing c.args.amount lg_k (lines_of_all taken) c.loop.summation)
-    (g.S.Sources.texts c.args.sources.now) (g.S.Sources.texts c.loop.sources) (g.S.Sources.texts c.next_source.new.self) c.in-Ok-None.field-0 (c.loop.invariant.added lg_k has) c.in-Ok-None.ensures c.in-Ok-None.field-0-is
+returns-in-Ok-None-clause-added g c = λ mode lg_k has.
+    continues_end g.S.Source.Read.remaining (λ taken. HasAdded mode c.args.hashing c.args.amount lg_k (lines_of_all taken) c.loop.summation) (λ taken. HasAdded mode c.args.hashing c.args.amount lg_k (lines_of_all taken) c.loop.summation)
+    (g.S.Sources.texts c.args.sources.now) (g.S.Sources.texts c.loop.sources) (g.S.Sources.texts c.next_source.new.self) c.in-Ok-None.field-0 (c.loop.invariant.added mode lg_k has) c.in-Ok-None.ensures c.in-Ok-None.field-0-is
 
 pub returns-in_err-add_source-in-Ok-Some-clause-numbered : goal.returns-in_err-add_source-in-Ok-Some-clause-numbered
 returns-in_err-add_source-in-Ok-Some-clause-numbered g c =
@@ -45,12 +45,12 @@ returns-in_err-add_source-in-Ok-Some-clause-numbered g c =
     (if_some texts (HasFault (λ text. LacksNumberAt amount text u)) (λ all. LacksNumberOf amount all u) (lacking_texts amount u) fault))
 
 pub returns-in_err-add_source-in-Ok-Some-clause-past : goal.returns-in_err-add_source-in-Ok-Some-clause-past
-returns-in_err-add_source-in-Ok-Some-clause-past g c = λ lg_k has.
+returns-in_err-add_source-in-Ok-Some-clause-past g c = λ mode lg_k has.
     let texts = g.S.Sources.texts c.args.sources.now in
     let hashing = c.args.hashing in
     let amount = c.args.amount in
     let u = c.in_err-add_source-in-Ok-Some.field-0.0 in
     let p = err_from_is_err_and c.from_residual-in_err-add_source-in-Ok-Some.result c.from_residual-in_err-add_source-in-Ok-Some.ensures.1 in
-    subst (λ r. IfSome texts (λ all. IfErr r (IsPastIn hashing amount (lines_of_all all)))) (sym p.1) (subst (λ v. IfSome texts (λ all. IsPastIn hashing amount (lines_of_all all) v)) (sym p.2)
-    (past_next hashing amount lg_k g.S.Source.Read.remaining texts (g.S.Sources.texts c.loop.sources) (g.S.Sources.texts c.next_source.new.self) c.in-Ok-Some.field-0 c.in-Ok-Some.source u c.loop.summation
-    (c.loop.invariant.added lg_k has) c.in-Ok-Some.ensures c.in-Ok-Some.field-0-is (c.in_err-add_source-in-Ok-Some.ensures.past lg_k)))
+    subst (λ r. IfSome texts (λ all. IfErr r (IsPastIn mode hashing amount (lines_of_all all)))) (sym p.1) (subst (λ v. IfSome texts (λ all. IsPastIn mode hashing amount (lines_of_all all) v)) (sym p.2)
+    (past_next hashing amount mode lg_k g.S.Source.Read.remaining texts (g.S.Sources.texts c.loop.sources) (g.S.Sources.texts c.next_source.new.self) c.in-Ok-Some.field-0 c.in-Ok-Some.source u c.loop.summation
+    (c.loop.invariant.added mode lg_k has) c.in-Ok-Some.ensures c.in-Ok-Some.field-0-is (c.in_err-add_source-in-Ok-Some.ensures.past mode lg_k)))

@@ -10,20 +10,20 @@ use Rattle.keys_sums.proofs.sources.sum_sources.Goals as goal
 
 pub returns-clause-sketch : goal.returns-clause-sketch
 returns-clause-sketch g c =
-    if_some (g.S.Sources.texts c.args.sources.now) (λ texts. HasAdded c.args.hashing c.args.amount c.args.lg_k (lines_of_all texts) c.add_sources.new.summation) (λ texts. c.in_ok-finish.field-0.sketch ≡ sketch_of_sums c.args.hashing (added_by c.args.amount) c.args.lg_k (lines_of_all texts))
-    (λ texts has. c.in_ok-finish.ensures.sketch c.args.hashing c.args.amount c.args.lg_k (lines_of_all texts) has)
-    (c.in_ok-add_sources.ensures.added c.args.lg_k (c.in_ok-summation.ensures.new c.args.hashing c.args.amount refl))
+    if_some (g.S.Sources.texts c.args.sources.now) (λ texts. HasAdded c.args.mode c.args.hashing c.args.amount c.args.lg_k (lines_of_all texts) c.add_sources.new.summation) (λ texts. c.in_ok-finish.field-0.sketch ≡ sketch_of_sums c.args.mode c.args.hashing (added_by c.args.amount) c.args.lg_k (lines_of_all texts))
+    (λ texts has. c.in_ok-finish.ensures.sketch c.args.hashing c.args.amount c.args.mode c.args.lg_k (lines_of_all texts) has)
+    (c.in_ok-add_sources.ensures.added c.args.mode c.args.lg_k (c.in_ok-summation.ensures.new c.args.hashing c.args.amount refl))
 
 pub returns-clause-total : goal.returns-clause-total
 returns-clause-total g c =
-    if_some (g.S.Sources.texts c.args.sources.now) (λ texts. HasAdded c.args.hashing c.args.amount c.args.lg_k (lines_of_all texts) c.add_sources.new.summation)
+    if_some (g.S.Sources.texts c.args.sources.now) (λ texts. HasAdded c.args.mode c.args.hashing c.args.amount c.args.lg_k (lines_of_all texts) c.add_sources.new.summation)
     (λ texts. c.in_ok-finish.field-0.total ≡ min (total_added (added_by c.args.amount) (lines_of_all texts)) GREATEST_TOTAL)
-    (λ texts has. c.in_ok-finish.ensures.total c.args.hashing c.args.amount c.args.lg_k (lines_of_all texts) has)
-    (c.in_ok-add_sources.ensures.added c.args.lg_k (c.in_ok-summation.ensures.new c.args.hashing c.args.amount refl))
+    (λ texts has. c.in_ok-finish.ensures.total c.args.hashing c.args.amount c.args.mode c.args.lg_k (lines_of_all texts) has)
+    (c.in_ok-add_sources.ensures.added c.args.mode c.args.lg_k (c.in_ok-summation.ensures.new c.args.hashing c.args.amount refl))
 
 pub returns-clause-numbers : goal.returns-clause-numbers
 returns-clause-numbers g c =
-    if_some (g.S.Sources.texts c.args.sources.now) (λ texts. HasAdded c.args.hashing c.args.amount c.args.lg_k (lines_of_all texts) c.add_sources.new.summation) (λ texts. AreNumbers c.args.amount (lines_of_all texts)) (λ texts has. has.numbers) (c.in_ok-add_sources.ensures.added c.args.lg_k (c.in_ok-summation.ensures.new c.args.hashing c.args.amount refl))
+    if_some (g.S.Sources.texts c.args.sources.now) (λ texts. HasAdded c.args.mode c.args.hashing c.args.amount c.args.lg_k (lines_of_all texts) c.add_sources.new.summation) (λ texts. AreNumbers c.args.amount (lines_of_all texts)) (λ texts has. has.numbers) (c.in_ok-add_sources.ensures.added c.args.mode c.args.lg_k (c.in_ok-summation.ensures.new c.args.hashing c.args.amount refl))
 
 pub returns-in_err-add_sources-clause-past : goal.returns-in_err-add_sources-clause-past
 returns-in_err-add_sources-clause-past g c =
@@ -31,5 +31,5 @@ returns-in_err-add_sources-clause-past g c =
     let hashing = c.args.hashing in
     let amount = c.args.amount in
     let p = err_from_is_err_and c.from_residual-in_err-add_sources.result c.from_residual-in_err-add_sources.ensures.1 in
-    subst (λ r. IfSome texts (λ all. IfErr r (IsPastIn hashing amount (lines_of_all all)))) (sym p.1) (subst (λ v. IfSome texts (λ all. IsPastIn hashing amount (lines_of_all all) v)) (sym p.2)
-    (c.in_err-add_sources.ensures.past c.args.lg_k (c.in_ok-summation.ensures.new hashing amount refl)))
+    subst (λ r. IfSome texts (λ all. IfErr r (IsPastIn c.args.mode hashing amount (lines_of_all all)))) (sym p.1) (subst (λ v. IfSome texts (λ all. IsPastIn c.args.mode hashing amount (lines_of_all all) v)) (sym p.2)
+    (c.in_err-add_sources.ensures.past c.args.mode c.args.lg_k (c.in_ok-summation.ensures.new hashing amount refl)))

@@ -3,8 +3,8 @@ use Rattle.keys_sums.proofs.Pieces.{past_policy}
 use Rattle.keys_sums.proofs.summing.add_line.Goals as goal
 
 pub returns-in-Ok-clause-added : goal.returns-in-Ok-clause-added
-returns-in-Ok-clause-added g c = λ hashing line is lg_k lines has.
-    c.in-Ok.ensures.added hashing c.args.amount lg_k lines line (c.hash.ensures hashing c.args.amount line is) (sym (c.value.ensures.value hashing line is) ∙ c.in-Some.is) has
+returns-in-Ok-clause-added g c = λ hashing line is mode lg_k lines has.
+    c.in-Ok.ensures.added hashing c.args.amount mode lg_k lines line (c.hash.ensures hashing c.args.amount line is) (sym (c.value.ensures.value hashing line is) ∙ c.in-Some.is) has
 
 pub returns-in-Err-clause-refused : goal.returns-in-Err-clause-refused
 returns-in-Err-clause-refused g c = c.add_error.ensures.sum_error c.args.amount
@@ -16,7 +16,7 @@ pub returns-in-Err-clause-number : goal.returns-in-Err-clause-number
 returns-in-Err-clause-number g c = λ hashing line is. c.add_error.ensures.number c.args.amount line
 
 pub returns-in-Err-clause-past : goal.returns-in-Err-clause-past
-returns-in-Err-clause-past g c = λ hashing line is lg_k lines has.
+returns-in-Err-clause-past g c = λ hashing line is mode lg_k lines has.
     let some = sym (c.value.ensures.value hashing line is) ∙ c.in-Some.is in
-    past_policy hashing c.args.amount (lines ++ line ∷ []) c.in-Err.error c.add_error.result c.add_error.ensures.policy
-    (c.in-Err.ensures.past hashing c.args.amount lg_k lines line (c.hash.ensures hashing c.args.amount line is) some has)
+    past_policy mode hashing c.args.amount (lines ++ line ∷ []) c.in-Err.error c.add_error.result c.add_error.ensures.policy
+    (c.in-Err.ensures.past hashing c.args.amount mode lg_k lines line (c.hash.ensures hashing c.args.amount line is) some has)

@@ -14,7 +14,7 @@ pub loop-init : goal.loop-init
 loop-init g c = ([], Consumes-nil (g.R.Read.remaining c.args.reader.now), taken_nothing c.args.hashing c.args.amount [] c.args.summation.now c.new-last.result 0 (c.new-last.ensures c.args.amount))
 
 pub returns-in-Ok-eq0-clause-added : goal.returns-in-Ok-eq0-clause-added
-returns-in-Ok-eq0-clause-added g c = λ lg_k lines has.
+returns-in-Ok-eq0-clause-added g c = λ mode lg_k lines has.
     let inv = c.loop.invariant in
     let all = inv.0 ++ take c.in-Ok-eq0.field-0 c.read.new.buf in
     let none : all ≡ inv.0 = ap (λ n. inv.0 ++ take n c.read.new.buf) c.in-Ok-eq0.field-0-test ∙ append-nil inv.0 in
@@ -22,9 +22,9 @@ returns-in-Ok-eq0-clause-added g c = λ lg_k lines has.
     Consumes-whole (g.R.Read.remaining c.args.reader.now) (g.R.Read.remaining c.read.new.self) all _
     (Consumes-trans (g.R.Read.remaining c.args.reader.now) (g.R.Read.remaining c.loop.reader) (g.R.Read.remaining c.read.new.self) inv.0 (take c.in-Ok-eq0.field-0 c.read.new.buf) inv.1 c.in-Ok-eq0.ensures.bytes.0)
     (c.in-Ok-eq0.ensures.bytes.1 c.in-Ok-eq0.field-0-test (omega arith))
-    (subst (λ bs. HasAdded c.args.hashing c.args.amount lg_k (lines ++ lines_of bs) c.take_last.new.summation) (sym none)
-    (taken_all c.args.hashing c.args.amount lg_k lines inv.0 c.args.summation.now c.loop.summation c.take_last.new.summation c.loop.last 0 c.loop.count taken
-    (c.in_ok-take_last-in-Ok-eq0.ensures.taken c.args.hashing taken.left taken.is_open lg_k (lines ++ taken.ended) (taken.added lg_k lines has))))
+    (subst (λ bs. HasAdded mode c.args.hashing c.args.amount lg_k (lines ++ lines_of bs) c.take_last.new.summation) (sym none)
+    (taken_all c.args.hashing c.args.amount mode lg_k lines inv.0 c.args.summation.now c.loop.summation c.take_last.new.summation c.loop.last 0 c.loop.count taken
+    (c.in_ok-take_last-in-Ok-eq0.ensures.taken c.args.hashing taken.left taken.is_open mode lg_k (lines ++ taken.ended) (taken.added mode lg_k lines has))))
 
 pub loop-preserved : goal.loop-preserved
 loop-preserved g c = let inv = c.loop.invariant in elim c.match-read.branch [
@@ -76,7 +76,7 @@ returns-in_err-count-in-Ok-clause-numbered g c =
     (λ more. c.in_err-count-in-Ok.ensures.numbered inv.2.left more inv.2.is_open)))
 
 pub returns-in_err-take_last-in-Ok-eq0-clause-past : goal.returns-in_err-take_last-in-Ok-eq0-clause-past
-returns-in_err-take_last-in-Ok-eq0-clause-past g c = λ lg_k lines has.
+returns-in_err-take_last-in-Ok-eq0-clause-past g c = λ mode lg_k lines has.
     let inv = c.loop.invariant in
     let known = g.R.Read.remaining c.args.reader.now in
     let left = g.R.Read.remaining c.read.new.self in
@@ -86,16 +86,16 @@ returns-in_err-take_last-in-Ok-eq0-clause-past g c = λ lg_k lines has.
     let p = err_from_is_err_and c.from_residual.result c.from_residual.ensures.1 in
     let all = inv.0 ++ take c.in-Ok-eq0.field-0 c.read.new.buf in
     let none : all ≡ inv.0 = ap (λ n. inv.0 ++ take n c.read.new.buf) c.in-Ok-eq0.field-0-test ∙ append-nil inv.0 in
-    subst (λ r. IfSome known (λ text. IfErr r (IsPastIn hashing amount (lines ++ lines_of text)))) (sym p.1) (subst (λ v. IfSome known (λ text. IsPastIn hashing amount (lines ++ lines_of text) v)) (sym p.2)
-    (Consumes-whole known left all (λ text. IsPastIn hashing amount (lines ++ lines_of text) u)
+    subst (λ r. IfSome known (λ text. IfErr r (IsPastIn mode hashing amount (lines ++ lines_of text)))) (sym p.1) (subst (λ v. IfSome known (λ text. IsPastIn mode hashing amount (lines ++ lines_of text) v)) (sym p.2)
+    (Consumes-whole known left all (λ text. IsPastIn mode hashing amount (lines ++ lines_of text) u)
     (Consumes-trans known (g.R.Read.remaining c.loop.reader) left inv.0 (take c.in-Ok-eq0.field-0 c.read.new.buf) inv.1 c.in-Ok-eq0.ensures.bytes.0)
     (c.in-Ok-eq0.ensures.bytes.1 c.in-Ok-eq0.field-0-test (omega arith))
-    (subst (λ bs. IsPastIn hashing amount (lines ++ lines_of bs) u) (sym none)
-    (past_end hashing amount lines inv.0 u c.args.summation.now c.loop.summation c.loop.last 0 c.loop.count inv.2
-    (c.in_err-take_last-in-Ok-eq0.ensures.past hashing inv.2.left inv.2.is_open lg_k (lines ++ inv.2.ended) (inv.2.added lg_k lines has))))))
+    (subst (λ bs. IsPastIn mode hashing amount (lines ++ lines_of bs) u) (sym none)
+    (past_end hashing amount mode lines inv.0 u c.args.summation.now c.loop.summation c.loop.last 0 c.loop.count inv.2
+    (c.in_err-take_last-in-Ok-eq0.ensures.past hashing inv.2.left inv.2.is_open mode lg_k (lines ++ inv.2.ended) (inv.2.added mode lg_k lines has))))))
 
 pub returns-in_err-count-in-Ok-clause-past : goal.returns-in_err-count-in-Ok-clause-past
-returns-in_err-count-in-Ok-clause-past g c = λ lg_k lines has.
+returns-in_err-count-in-Ok-clause-past g c = λ mode lg_k lines has.
     let inv = c.loop.invariant in
     let known = g.R.Read.remaining c.args.reader.now in
     let left = g.R.Read.remaining c.read.new.self in
@@ -104,10 +104,10 @@ returns-in_err-count-in-Ok-clause-past g c = λ lg_k lines has.
     let block = take c.in-Ok.length c.read.new.buf in
     let u = c.in_err-count-in-Ok.field-0.0 in
     let p = err_from_is_err_and c.from_residual-in_err-count-in-Ok.result c.from_residual-in_err-count-in-Ok.ensures.1 in
-    subst (λ r. IfSome known (λ text. IfErr r (IsPastIn hashing amount (lines ++ lines_of text)))) (sym p.1) (subst (λ v. IfSome known (λ text. IsPastIn hashing amount (lines ++ lines_of text) v)) (sym p.2)
-    (past_text hashing amount lines known left inv.0 block u c.args.summation.now c.loop.summation c.loop.last 0 c.loop.count inv.2
+    subst (λ r. IfSome known (λ text. IfErr r (IsPastIn mode hashing amount (lines ++ lines_of text)))) (sym p.1) (subst (λ v. IfSome known (λ text. IsPastIn mode hashing amount (lines ++ lines_of text) v)) (sym p.2)
+    (past_text hashing amount mode lines known left inv.0 block u c.args.summation.now c.loop.summation c.loop.last 0 c.loop.count inv.2
     (Consumes-trans known (g.R.Read.remaining c.loop.reader) left inv.0 block inv.1 c.in-Ok.ensures.bytes.0)
-    (λ more. c.in_err-count-in-Ok.ensures.past inv.2.left more inv.2.is_open lg_k (lines ++ inv.2.ended) (inv.2.added lg_k lines has))))
+    (λ more. c.in_err-count-in-Ok.ensures.past inv.2.left more inv.2.is_open mode lg_k (lines ++ inv.2.ended) (inv.2.added mode lg_k lines has))))
 
 pub returns-in_err-take_last-in-Ok-eq0-clause-fallible : goal.returns-in_err-take_last-in-Ok-eq0-clause-fallible
 returns-in_err-take_last-in-Ok-eq0-clause-fallible g c =

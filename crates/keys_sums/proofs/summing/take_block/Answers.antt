@@ -20,7 +20,7 @@ loop-piece-preserved g c =
           let was = inv.2 front is in
           taken_line c.args.hashing c.args.amount front inv.0 line c.args.summation.now c.loop-piece.summation c.add_line.new.summation c.loop-piece.last c.new.result c.args.count c.loop-piece.count c.saturating_add-count.result was c.in-Some.ensures.line
           (c.new.ensures c.args.amount) c.saturating_add-count.ensures
-          (λ lg_k lines has. c.in_ok-add_line.ensures.added c.args.hashing (was.left ++ line) (c.extend.ensures c.args.hashing was.left was.is_open) lg_k lines has),
+          (λ mode lg_k lines has. c.in_ok-add_line.ensures.added c.args.hashing (was.left ++ line) (c.extend.ensures c.args.hashing was.left was.is_open) mode lg_k lines has),
     )
 
 pub returns-clause-taken : goal.returns-clause-taken
@@ -42,16 +42,16 @@ returns-in_err-add_line-clause-numbered g c = λ front more is.
     c.in-Some.ensures.line (inv.1 ∙ ap (λ bs. inv.0 ++ bs) c.in-Some.ensures.parts) (c.in_err-add_line.ensures.number c.args.hashing (was.left ++ line) (c.extend.ensures c.args.hashing was.left was.is_open))))
 
 pub returns-in_err-add_line-clause-past : goal.returns-in_err-add_line-clause-past
-returns-in_err-add_line-clause-past g c = λ front more is lg_k lines has.
+returns-in_err-add_line-clause-past g c = λ front more is mode lg_k lines has.
     let p = err_from_is_err_and c.from_residual.result c.from_residual.ensures.1 in
     let inv = c.loop-piece.invariant in
     let was = inv.2 front is in
     let line = c.in-Some.piece.now in
     let all = lines ++ lines_after front (c.args.block.now ++ more) in
-    subst (λ r. IfErr r (IsPastIn c.args.hashing c.args.amount all)) (sym p.1) (subst (IsPastIn c.args.hashing c.args.amount all) (sym p.2)
-    (past_block c.args.hashing c.args.amount lines front inv.0 line c.in-Some.others.now more c.args.block.now c.in_err-add_line.field-0.0 c.args.summation.now c.loop-piece.summation c.loop-piece.last c.args.count c.loop-piece.count was
+    subst (λ r. IfErr r (IsPastIn mode c.args.hashing c.args.amount all)) (sym p.1) (subst (IsPastIn mode c.args.hashing c.args.amount all) (sym p.2)
+    (past_block c.args.hashing c.args.amount mode lines front inv.0 line c.in-Some.others.now more c.args.block.now c.in_err-add_line.field-0.0 c.args.summation.now c.loop-piece.summation c.loop-piece.last c.args.count c.loop-piece.count was
     c.in-Some.ensures.line (inv.1 ∙ ap (λ bs. inv.0 ++ bs) c.in-Some.ensures.parts)
-    (c.in_err-add_line.ensures.past c.args.hashing (was.left ++ line) (c.extend.ensures c.args.hashing was.left was.is_open) lg_k (lines ++ was.ended) (was.added lg_k lines has))))
+    (c.in_err-add_line.ensures.past c.args.hashing (was.left ++ line) (c.extend.ensures c.args.hashing was.left was.is_open) mode lg_k (lines ++ was.ended) (was.added mode lg_k lines has))))
 
 pub returns-in_err-add_line-clause-fallible : goal.returns-in_err-add_line-clause-fallible
 returns-in_err-add_line-clause-fallible g c = λ may_fail.

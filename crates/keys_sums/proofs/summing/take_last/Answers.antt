@@ -8,6 +8,6 @@ begun_some true begun is some = sym some ∙ is
 begun_some false begun is some = refl
 
 pub returns-clause-past : goal.returns-clause-past
-returns-clause-past g c = λ hashing front is lg_k lines has.
+returns-clause-past g c = λ hashing front is mode lg_k lines has.
     let some : eqb (length front) 0 ≡ false = begun_some (eqb (length front) 0) c.is_begun.result (c.is_begun.ensures hashing c.args.amount front is) c.if-not-is_begun.false in
-    subst (λ (empty : Bool). IfErr c.add_line.result (IsPastIn hashing c.args.amount (lines ++ cond empty [] (front ∷ [])))) (sym some) (c.add_line.ensures.past hashing front is lg_k lines has)
+    subst (λ (empty : Bool). IfErr c.add_line.result (IsPastIn mode hashing c.args.amount (lines ++ cond empty [] (front ∷ [])))) (sym some) (c.add_line.ensures.past hashing front is mode lg_k lines has)

@@ -16,19 +16,19 @@ use Rattle.core_laws.proofs.operators.UnionUpdates.{union-below}
 use Rattle.core_operators.proofs.union.UnionState.update.Goals as goal
 
 pub returns-then-self-clause-content : goal.returns-then-self-clause-content
-returns-then-self-clause-content g c = rw (← c.self.view_is) (IsRetained-below g.E.SketchEntry.key _ _ _ c.retention_theta.ensures.sound.kept c.self.invariant.theta_low c.self.invariant.theta_within)
+returns-then-self-clause-content g c = rw (← c.self.view_is) (IsRetained-below g.E.SketchEntry.key _ _ _ c.self.invariant.table_sound.kept c.self.invariant.theta_low c.self.invariant.theta_within)
 
 pub returns-then-seed_hash-clause-content : goal.returns-then-seed_hash-clause-content
-returns-then-seed_hash-clause-content g c = rw (← c.self.view_is) (IsRetained-below g.E.SketchEntry.key _ _ _ c.retention_theta.ensures.sound.kept c.self.invariant.theta_low c.self.invariant.theta_within)
+returns-then-seed_hash-clause-content g c = rw (← c.self.view_is) (IsRetained-below g.E.SketchEntry.key _ _ _ c.self.invariant.table_sound.kept c.self.invariant.theta_low c.self.invariant.theta_within)
 
 pub returns-in-Err-clause-content : goal.returns-in-Err-clause-content
-returns-in-Err-clause-content g c = rw (← c.self.view_is) (IsRetained-below g.E.SketchEntry.key _ _ _ c.retention_theta.ensures.sound.kept c.self.invariant.theta_low c.self.invariant.theta_within)
+returns-in-Err-clause-content g c = rw (← c.self.view_is) (IsRetained-below g.E.SketchEntry.key _ _ _ c.self.invariant.table_sound.kept c.self.invariant.theta_low c.self.invariant.theta_within)
 
 pub returns-in-Empty-clause-content : goal.returns-in-Empty-clause-content
-returns-in-Empty-clause-content g c = rw (← c.self.view_is) (IsRetained-below g.E.SketchEntry.key _ _ _ c.retention_theta.ensures.sound.kept c.self.invariant.theta_low c.self.invariant.theta_within)
+returns-in-Empty-clause-content g c = rw (← c.self.view_is) (IsRetained-below g.E.SketchEntry.key _ _ _ c.self.invariant.table_sound.kept c.self.invariant.theta_low c.self.invariant.theta_within)
 
 pub returns-in_default-clause-content : goal.returns-in_default-clause-content
-returns-in_default-clause-content g c = rw (← c.self.view_is) (IsRetained-below g.E.SketchEntry.key _ _ _ c.retention_theta.ensures.sound.kept c.self.invariant.theta_low c.self.invariant.theta_within)
+returns-in_default-clause-content g c = rw (← c.self.view_is) (IsRetained-below g.E.SketchEntry.key _ _ _ c.self.invariant.table_sound.kept c.self.invariant.theta_low c.self.invariant.theta_within)
 
 pub returns-in-Err-clause-refused : goal.returns-in-Err-clause-refused
 returns-in-Err-clause-refused g c =
@@ -67,11 +67,11 @@ returns-in_default-clause-joined g c nonempty =
     let made = c.merge_entries-merged.ensures.made_with in
     let folded : List g.row.E.Denot → Retained (Fold g.row.E.Denot) = λ ys. after_upserts (fold_key key) k (merge_step (fold_merges key merges refuses) never) (map Value (below key ys c.min-least.result)) (unmarked c.self.inside.table.map.kept) in
     let after : unmarked now ≡ folded listing = c.in_default.ensures.after ∙ ap folded (at_or_above_zero key listing) in
-    let within = union-below key merges refuses keeps k c.min-least.result theta c.self.inside.table.map.kept now listing c.retention_theta.ensures.sound.kept (omega (arith, c.min-least.ensures)) c.self.invariant.theta_within nonzero after in
+    let within = union-below key merges refuses keeps k c.min-least.result theta c.self.inside.table.map.kept now listing c.self.invariant.table_sound.kept (omega (arith, c.min-least.ensures)) c.self.invariant.theta_within nonzero after in
     let reported = rw nonempty at c.in-NonEmpty.ensures.metadata in
     let theta_is : c.in-NonEmpty.theta ≡ (g.S.KeySketch.shown c.args.sketch).theta = cc in
     let m_is : c.min-least.result ≡ min theta (g.S.KeySketch.shown c.args.sketch).theta = c.min-least.ensures ∙ ap (λ t. min theta t) theta_is in
-    let now_is : c.min-self-inside.result ≡ min c.min-least.result now.theta = c.min-self-inside.ensures ∙ ap (λ t. min c.min-least.result t) c.retention_theta-in-NonEmpty.ensures.theta in
+    let now_is : c.min-self-inside.result ≡ min c.min-least.result now.theta = c.min-self-inside.ensures ∙ ap (λ t. min c.min-least.result t) c.retention_theta.ensures.theta in
     rw (← c.self.view_is) (record {
       whole = rw (now_is, ← m_is) within;
       made_with = rw made refl;
@@ -90,4 +90,4 @@ returns-in_default-clause-united g c nonempty =
     let new : Union g.row.E.Denot g.row.P.Denot = record { empty = false; failed = c.self.inside.failed; content = retained key c.merge_entries-merged.new.table.map.kept.entries c.min-self-inside.result; lg_k = c.merge_entries-merged.new.table.map.lg_nom; start = c.merge_entries-merged.new.table.map.start; seed_hash = c.merge_entries-merged.new.table.map.seed_hash; policy = c.self.inside.policy } in
     let join : IsJoined key merges refuses old new (g.S.KeySketch.shown c.args.sketch).theta listing = rw (← c.self.view_is) at (returns-in_default-clause-joined g c nonempty) in
     let ok : c.self.inside.failed ≡ false = c.if-self.false in
-    rw (nonempty, ← c.self.view_is) (united key merges refuses keeps old new (g.S.KeySketch.shown c.args.sketch).theta listing c.self.invariant.union ok (ascending-filter key _ c.self.inside.table.map.kept.entries c.retention_theta.ensures.sound.kept.ascending) apart join)
+    rw (nonempty, ← c.self.view_is) (united key merges refuses keeps old new (g.S.KeySketch.shown c.args.sketch).theta listing c.self.invariant.union ok (ascending-filter key _ c.self.inside.table.map.kept.entries c.self.invariant.table_sound.kept.ascending) apart join)

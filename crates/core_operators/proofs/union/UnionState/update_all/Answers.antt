@@ -9,26 +9,26 @@ use Rattle.core_operators.proofs.UnitedMany.{unites-nothing, unites-joined, refu
 use Rattle.core_operators.proofs.union.UnionState.update_all.Goals as goal
 
 pub returns-then-self-clause-content : goal.returns-then-self-clause-content
-returns-then-self-clause-content g c = rw (← c.self.view_is) (IsRetained-below g.E.SketchEntry.key _ _ _ c.retention_theta.ensures.sound.kept c.self.invariant.theta_low c.self.invariant.theta_within)
+returns-then-self-clause-content g c = rw (← c.self.view_is) (IsRetained-below g.E.SketchEntry.key _ _ _ c.self.invariant.table_sound.kept c.self.invariant.theta_low c.self.invariant.theta_within)
 
 pub returns-in_err-inputs-clause-content : goal.returns-in_err-inputs-clause-content
-returns-in_err-inputs-clause-content g c = rw (← c.self.view_is) (IsRetained-below g.E.SketchEntry.key _ _ _ c.retention_theta.ensures.sound.kept c.self.invariant.theta_low c.self.invariant.theta_within)
+returns-in_err-inputs-clause-content g c = rw (← c.self.view_is) (IsRetained-below g.E.SketchEntry.key _ _ _ c.self.invariant.table_sound.kept c.self.invariant.theta_low c.self.invariant.theta_within)
 
 pub returns-then-inputs-clause-content : goal.returns-then-inputs-clause-content
-returns-then-inputs-clause-content g c = rw (← c.self.view_is) (IsRetained-below g.E.SketchEntry.key _ _ _ c.retention_theta.ensures.sound.kept c.self.invariant.theta_low c.self.invariant.theta_within)
+returns-then-inputs-clause-content g c = rw (← c.self.view_is) (IsRetained-below g.E.SketchEntry.key _ _ _ c.self.invariant.table_sound.kept c.self.invariant.theta_low c.self.invariant.theta_within)
 
 pub returns-in-Err-clause-content : goal.returns-in-Err-clause-content
-returns-in-Err-clause-content g c = rw (← c.self.view_is) (IsRetained-below g.E.SketchEntry.key _ _ _ c.retention_theta.ensures.sound.kept c.self.invariant.theta_low c.self.invariant.theta_within)
+returns-in-Err-clause-content g c = rw (← c.self.view_is) (IsRetained-below g.E.SketchEntry.key _ _ _ c.self.invariant.table_sound.kept c.self.invariant.theta_low c.self.invariant.theta_within)
 
 pub returns-clause-content : goal.returns-clause-content
-returns-clause-content g c = rw (← c.self.view_is) (IsRetained-below g.E.SketchEntry.key _ _ _ c.retention_theta.ensures.sound.kept c.self.invariant.theta_low c.self.invariant.theta_within)
+returns-clause-content g c = rw (← c.self.view_is) (IsRetained-below g.E.SketchEntry.key _ _ _ c.self.invariant.table_sound.kept c.self.invariant.theta_low c.self.invariant.theta_within)
 
 pub returns-then-inputs-clause-united : goal.returns-then-inputs-clause-united
 returns-then-inputs-clause-united g c =
     let merges = g.P.UnionMergePolicy.merges c.self.inside.policy in
     let refuses = g.P.UnionMergePolicy.refuses c.self.inside.policy in
     let keeps = g.met.P.UnionMergePolicy.keeps_hash c.self.inside.policy in
-    let retained_old : IsRetained g.E.SketchEntry.key (retained g.E.SketchEntry.key c.self.inside.table.map.kept.entries c.self.inside.theta) = IsRetained-below g.E.SketchEntry.key _ _ _ c.retention_theta.ensures.sound.kept c.self.invariant.theta_low c.self.invariant.theta_within in
+    let retained_old : IsRetained g.E.SketchEntry.key (retained g.E.SketchEntry.key c.self.inside.table.map.kept.entries c.self.inside.theta) = IsRetained-below g.E.SketchEntry.key _ _ _ c.self.invariant.table_sound.kept c.self.invariant.theta_low c.self.invariant.theta_within in
     let old = over g.E.SketchEntry.key c.self.inside.empty c.self.inside.failed c.self.inside.policy c.self.inside.table.map c.self.inside.theta in
     rw (← c.self.view_is) (unites-nothing g.E.SketchEntry.key merges refuses keeps g.S.KeySketch.shown g.S.EntrySketch.listing old old c.args.sketches.now c.self.invariant.union c.if-self.false retained_old c.in_ok-inputs.ensures.inputs (sym c.in_ok-inputs.ensures.empty ∙ c.if-inputs.true))
 
@@ -46,8 +46,9 @@ invariant_of-self g c =
     let low : 0 < c.min-least.result = omega (arith, c.min-least.ensures, c.in_ok-inputs.ensures.theta, least, c.self.invariant.theta_low) in
     record {
       union = record { lg_k_low = omega (arith, lg, is.union.lg_k_low); lg_k_high = omega (arith, lg, is.union.lg_k_high); theta_high = λ e. absurd (cc); none_held = λ e. absurd (cc) };
-      theta_low = omega (arith, c.min-self-inside.ensures, low, c.retention_theta-2.ensures.theta, c.retention_theta-2.ensures.sound.kept.theta_low);
-      theta_within = omega (arith, c.min-self-inside.ensures, c.retention_theta-2.ensures.theta);
+      theta_low = omega (arith, c.min-self-inside.ensures, low, c.retention_theta.ensures.theta, c.retention_theta.ensures.sound.kept.theta_low);
+      theta_within = omega (arith, c.min-self-inside.ensures, c.retention_theta.ensures.theta);
+      table_sound = c.retention_theta.ensures.sound;
     }
 
 pub invariant_of-self-2 : goal.invariant_of-self-2
@@ -61,8 +62,9 @@ invariant_of-self-2 g c =
     let high : c.self.inside.theta ≤ c.self.inside.table.map.start = is.union.theta_high c.if-self.false in
     record {
       union = record { lg_k_low = omega (arith, lg, is.union.lg_k_low); lg_k_high = omega (arith, lg, is.union.lg_k_high); theta_high = λ e. omega (arith, c.min-self-inside.ensures, c.min-least.ensures, start, high); none_held = λ e f. absurd (cc) };
-      theta_low = omega (arith, c.min-self-inside.ensures, low, c.retention_theta-2.ensures.theta, c.retention_theta-2.ensures.sound.kept.theta_low);
-      theta_within = omega (arith, c.min-self-inside.ensures, c.retention_theta-2.ensures.theta);
+      theta_low = omega (arith, c.min-self-inside.ensures, low, c.retention_theta.ensures.theta, c.retention_theta.ensures.sound.kept.theta_low);
+      theta_within = omega (arith, c.min-self-inside.ensures, c.retention_theta.ensures.theta);
+      table_sound = c.retention_theta.ensures.sound;
     }
 
 pub returns-in-Err-clause-refused : goal.returns-in-Err-clause-refused
@@ -83,7 +85,7 @@ returns-clause-joined g c some =
     let shown = g.S.KeySketch.shown in
     let now = c.merge_all-merged.new.table.map.kept in
     let m_is : c.min-least.result ≡ min c.self.inside.theta (least_theta shown c.args.sketches.now) = c.min-least.ensures ∙ ap (λ t. min c.self.inside.theta t) c.in_ok-inputs.ensures.theta in
-    let now_is : c.min-self-inside.result ≡ min c.min-least.result now.theta = c.min-self-inside.ensures ∙ ap (λ t. min c.min-least.result t) c.retention_theta-2.ensures.theta in
+    let now_is : c.min-self-inside.result ≡ min c.min-least.result now.theta = c.min-self-inside.ensures ∙ ap (λ t. min c.min-least.result t) c.retention_theta.ensures.theta in
     rw (← c.self.view_is) (record {
       whole = rw (now_is, ← m_is, below-below g.E.SketchEntry.key c.self.inside.table.map.kept.entries c.min-least.result c.self.inside.theta (omega (arith, c.min-least.ensures))) c.in_default.ensures.whole;
       made_with = rw c.merge_all-merged.ensures.made_with refl;
@@ -97,7 +99,7 @@ returns-clause-united g c =
     let merges = g.P.UnionMergePolicy.merges c.self.inside.policy in
     let refuses = g.P.UnionMergePolicy.refuses c.self.inside.policy in
     let keeps = g.met.P.UnionMergePolicy.keeps_hash c.self.inside.policy in
-    let retained_old : IsRetained key (retained key c.self.inside.table.map.kept.entries c.self.inside.theta) = IsRetained-below key _ _ _ c.retention_theta.ensures.sound.kept c.self.invariant.theta_low c.self.invariant.theta_within in
+    let retained_old : IsRetained key (retained key c.self.inside.table.map.kept.entries c.self.inside.theta) = IsRetained-below key _ _ _ c.self.invariant.table_sound.kept c.self.invariant.theta_low c.self.invariant.theta_within in
     let old = over key c.self.inside.empty c.self.inside.failed c.self.inside.policy c.self.inside.table.map c.self.inside.theta in
     let new = over key false c.self.inside.failed c.self.inside.policy c.merge_all-merged.new.table.map c.min-self-inside.result in
     let some = sym c.in_ok-inputs.ensures.empty ∙ c.if-inputs.false in

@@ -25,10 +25,10 @@ returns-in_err-try_insert_hash-clause-err g c =
 pub loop-hash-preserved : goal.loop-hash-preserved
 loop-hash-preserved g c =
     let hash : ℕ = get_or c.args.hashes.now c.loop-hash.hash-index 0 in
-    (c.in_ok-try_insert_hash.ensures.after ∙ ap (after_hashes (hash ∷ [])) c.loop-hash.invariant.0 ∙ sym (after_hashes-append (take c.loop-hash.hash-index c.args.hashes.now) (hash ∷ []) c.args.self.now.map) ∙ ap (λ xs. after_hashes xs c.args.self.now.map) (sym (take_more c.args.hashes.now c.loop-hash.hash-index 0 c.loop-hash-test.true)), omega (arith, c.loop-hash.invariant.1, c.in_ok-try_insert_hash.ensures.looks_kept))
+    (c.in_ok-try_insert_hash.ensures.after ∙ ap (after_hashes (hash ∷ [])) c.loop-hash.invariant.0 ∙ sym (after_hashes-append (take c.loop-hash.hash-index c.args.hashes.now) (hash ∷ []) c.args.self.now.map) ∙ ap (λ xs. after_hashes xs c.args.self.now.map) (sym (take_more c.args.hashes.now c.loop-hash.hash-index 0 c.loop-hash-test.true)), omega (arith, c.loop-hash.invariant.1, c.in_ok-try_insert_hash.ensures.works.looks_kept))
 
 pub returns-in_err-try_insert_hash-clause-looks_kept : goal.returns-in_err-try_insert_hash-clause-looks_kept
-returns-in_err-try_insert_hash-clause-looks_kept g c = omega (arith, c.loop-hash.invariant.1, c.in_err-try_insert_hash.ensures.looks_kept)
+returns-in_err-try_insert_hash-clause-looks_kept g c = omega (arith, c.loop-hash.invariant.1, c.in_err-try_insert_hash.ensures.works.looks_kept)
 
 pub returns-clause-looks_kept : goal.returns-clause-looks_kept
 returns-clause-looks_kept g c = c.loop-hash.invariant.1

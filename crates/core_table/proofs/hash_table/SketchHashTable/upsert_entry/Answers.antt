@@ -1,4 +1,4 @@
-use Rattle.std.proofs.Common.{◌^◌, false, None, sym, refl, inl, inr, arith}
+use Rattle.std.proofs.Common.{◌^◌, false, None, sym, refl, inl, inr, rules, arith}
 use Rattle.core_laws.proofs.insertions.Cases.{IsCase, screened_case, is_screened_true}
 use Rattle.core_table.proofs.Slotted.{slotted_count}
 use Rattle.core_table.proofs.hash_table.SketchHashTable.upsert_entry.Given.{Over}
@@ -20,7 +20,30 @@ returns-then-hash-self-clause-refused g c = (screened g c).refusal_is
 pub returns-then-hash-self-clause-memory : goal.returns-then-hash-self-clause-memory
 returns-then-hash-self-clause-memory g c = λ _. (screened g c).refusal_is
 
-pub returns-clause-looks : goal.returns-clause-looks
-returns-clause-looks g c =
+pub returns-then-hash-self-clause-works : goal.returns-then-hash-self-clause-works
+returns-then-hash-self-clause-works g c = record {
+  ticked = refl;
+  unticked = tt;
+  sized = refl;
+  grows = refl;
+  looks = omega arith;
+  looked = search (rules);
+  looks_kept = omega arith;
+  screened = λ _. refl;
+  layout_err = tt;
+}
+
+pub returns-clause-works : goal.returns-clause-works
+returns-clause-works g c =
     let many = slotted_count _ _ _ _ _ _ c.self.invariant.slotted in
-    rw (← c.self.view_is) (omega (arith, rw c.deref.ensures.value at c.seek-place.ensures.looks, many, c.self.invariant.slotted.counted, c.upsert_at.ensures.looks))
+    record {
+      ticked = search (rules);
+      unticked = search (rules);
+      sized = search (rules);
+      grows = search (rules);
+      looks = rw (← c.self.view_is) (omega (arith, rw c.deref.ensures.value at c.seek-place.ensures.looks, many, c.self.invariant.slotted.counted, c.upsert_at.ensures.looks));
+      looked = search (rules);
+      looks_kept = search (rules);
+      screened = search (rules);
+      layout_err = search (rules);
+    }

@@ -17,7 +17,7 @@ returns-in_ok-add_image-in-Some-clause-updated c =
       was,
       now,
       sym value,
-      (made.united, made.ready (ready_at c.args.seed 0 c.args.self.now.map c.args.name.now was c.requires.ready value)),
+      (made.united, made.ready 0 (ready_at c.args.seed 0 c.args.self.now.map c.args.name.now was c.requires.ready value)),
       changed_at c.args.name.now c.args.self.now.map (c.get_mut.follows.lender now) (Some now) ((c.get_mut.follows.holds now).3 (subst (λ o. IsSome o) value refl)),
     )
 
@@ -28,4 +28,4 @@ returns-in_err-add_image-in-Some-clause-refused c =
     let p = err_from_is_err_and c.from_residual.result c.from_residual.ensures.1 in
     let ready = ready_at seed 0 c.args.self.now.map c.args.name.now c.in-Some.union.now c.requires.ready c.in-Some.ensures.value in
     subst (λ r. IfErr r (λ e. IsRefused e (IsReadable image (seed_hash seed)))) (sym p.1)
-    (subst (λ e. IsRefused e (IsReadable image (seed_hash seed))) (sym p.2) (c.in_err-add_image-in-Some.ensures.refused ready))
+    (subst (λ e. IsRefused e (IsReadable image (seed_hash seed))) (sym p.2) (c.in_err-add_image-in-Some.ensures.refused 0 ready))

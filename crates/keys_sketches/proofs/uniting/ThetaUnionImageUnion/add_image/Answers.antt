@@ -16,7 +16,7 @@ returns-clause-united g c = λ lg_k images has.
     c.in_ok-update.ensures.skipped c.in_ok-update.ensures.united c.as_view.ensures.value c.in_ok-update.ensures.made_with
 
 pub returns-in_err-update-clause-refused : goal.returns-in_err-update-clause-refused
-returns-in_err-update-clause-refused g c = λ ready.
+returns-in_err-update-clause-refused g c = λ lg_k ready.
     let shows = view_shows c.as_view.result in
     let result = c.from_residual-in_err-update.result in
     let p = err_from_is_err_and result c.from_residual-in_err-update.ensures.1 in

@@ -22,10 +22,10 @@ returns-clause-united g c = λ seed lg_k first others has reads.
     c.in_ok-update_all.ensures.made_with
 
 pub returns-clause-ready : goal.returns-clause-ready
-returns-clause-ready g c = λ seed ready. ready_after seed c.args.self.now c.update_all.new.self ready c.in_ok-update_all.ensures.made_with
+returns-clause-ready g c = λ seed lg_k ready. ready_after seed c.args.self.now c.update_all.new.self ready c.in_ok-update_all.ensures.made_with
 
 pub returns-in_err-update_all-clause-refused : goal.returns-in_err-update_all-clause-refused
-returns-in_err-update_all-clause-refused g c = λ seed images ready reads.
+returns-in_err-update_all-clause-refused g c = λ seed lg_k images ready reads.
     let p = err_from_is_err_and c.from_residual-in_err-update_all.result c.from_residual-in_err-update_all.ensures.1 in
     let views = c.as_slice.result.now in
     let shown = ap (map (λ view. view_shows view)) c.as_slice.ensures.value ∙ c.in_ok-views.ensures.shown in

@@ -9,5 +9,5 @@ use Rattle.plan_evaluation.proofs.theta.ThetaFamilySketchFamily.join.Goals as go
 pub returns-clause-joins : goal.returns-clause-joins
 returns-clause-joins g c =
     joins_plain (hashes {V = Unit {0}}) never (λ x y same. same) c.args.union.now c.update.new.self (view_shows c.view-shown.result) (view_sequence c.view-shown.result)
-    c.update.ensures.sound c.requires.at_work c.update.ensures.content.ascending (apart_lent hash_key c.view-shown.result.sketch c.num_retained.ensures.sound)
+    c.update.ensures.sound c.requires.at_work c.update.ensures.content.ascending (apart_lent hash_key c.view-shown.result.sketch c.in_ok-update.ensures.shown)
     c.in_ok-update.ensures.skipped c.in_ok-update.ensures.joined _ c.view-shown.ensures.value

@@ -6,7 +6,7 @@ use Rattle.core_operators.specs.Union.{IsBroken, update_refusal}
 use Rattle.core_policies.specs.Summaries.{combine_refused, combined-keeps}
 use Rattle.core_slots.specs.Entry.{tuple_key}
 use Rattle.plan_values.specs.Family.{tuples}
-use Rattle.core_streams.proofs.Calls.{on_both}
+use Rattle.core_streams.proofs.Calls.{on_three}
 use Rattle.plan_evaluation.proofs.families.Held.{holds_more}
 use Rattle.plan_evaluation.proofs.families.Joining.{joins_plain, joined_under}
 use Rattle.plan_evaluation.proofs.families.Refusals.{refused_join}
@@ -28,14 +28,14 @@ returns-clause-refused g c =
 pub returns-clause-joins : goal.returns-clause-joins
 returns-clause-joins g c =
     let f = c.args.self.now in
-    on_both c.update.result (λ skipped reported.
+    on_three c.update.result (λ lawful skipped reported.
     joins_plain (tuples (g.P.SummaryPolicy.creates f.updates) (g.P.SummaryUpdatePolicy.updates f.updates) (g.Q.SummaryCombinePolicy.combines f.combines)) _ (combined-keeps (g.Q.SummaryCombinePolicy.combines f.combines)) _ _ (shows tuple_key c.view-shown.result) (sequence c.view-shown.result)
-    c.update.ensures.sound c.requires.at_work c.update.ensures.content.ascending (apart_lent tuple_key c.view-shown.result.sketch c.num_retained.ensures.sound) skipped
-    (joined_under g.Q.SummaryCombinePolicy.combines _ _ _ _ (shows tuple_key c.view-shown.result) _ c.requires.own reported) _ c.view-shown.ensures.value) c.update.ensures.skipped c.update.ensures.joined
+    c.update.ensures.sound c.requires.at_work c.update.ensures.content.ascending (apart_lent tuple_key c.view-shown.result.sketch lawful) skipped
+    (joined_under g.Q.SummaryCombinePolicy.combines _ _ _ _ (shows tuple_key c.view-shown.result) _ c.requires.own reported) _ c.view-shown.ensures.value) c.update.ensures.shown c.update.ensures.skipped c.update.ensures.joined
 
 pub returns-clause-holds : goal.returns-clause-holds
 returns-clause-holds g c =
     let f = c.args.self.now in
-    on_both c.update.result (λ skipped reported.
+    on_three c.update.result (λ lawful skipped reported.
     holds_more (tuples (g.P.SummaryPolicy.creates f.updates) (g.P.SummaryUpdatePolicy.updates f.updates) (g.Q.SummaryCombinePolicy.combines f.combines)) _ (combined-keeps (g.Q.SummaryCombinePolicy.combines f.combines)) _ _ (shows tuple_key c.view-shown.result) (sequence c.view-shown.result)
-    (apart_lent tuple_key c.view-shown.result.sketch c.num_retained.ensures.sound) skipped (joined_under g.Q.SummaryCombinePolicy.combines _ _ _ _ (shows tuple_key c.view-shown.result) _ c.requires.own reported) _ c.view-shown.ensures.value) c.update.ensures.skipped c.update.ensures.joined
+    (apart_lent tuple_key c.view-shown.result.sketch lawful) skipped (joined_under g.Q.SummaryCombinePolicy.combines _ _ _ _ (shows tuple_key c.view-shown.result) _ c.requires.own reported) _ c.view-shown.ensures.value) c.update.ensures.shown c.update.ensures.skipped c.update.ensures.joined

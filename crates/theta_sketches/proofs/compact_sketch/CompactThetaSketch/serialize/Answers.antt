@@ -1,4 +1,6 @@
-use Rattle.std.proofs.Common.{◌<◌, ◌^◌, ap, ◌∙◌, subst, arith}
+use Rattle.std.proofs.Common.{◌<◌, ◌^◌, ap, ◌∙◌, subst}
+use Rattle.core_compact.specs.CompactState.{IsCompact}
+use Rattle.core_laws.specs.Entries.{hash_key}
 use Rattle.theta_sketches.specs.Image.{Reads, written}
 use Rattle.core_streams.proofs.Calls.{if_ok}
 use Rattle.theta_sketches.proofs.ReadBack.{read_back}
@@ -6,6 +8,8 @@ use Rattle.theta_sketches.proofs.compact_sketch.CompactThetaSketch.serialize.Goa
 
 pub returns-clause-read_back : goal.returns-clause-read_back
 returns-clause-read_back g c =
-    let high : c.args.self.now.seed_hash < 2 ^ 16 = omega (arith, c.seed_hash.ensures) in
+    let same = c.state-2.ensures in
+    let sound = subst (λ s. IsCompact hash_key s) same c.write_image.ensures.sound in
+    let short = subst (λ s. s.seed_hash < 2 ^ 16) same c.write_image.ensures.short in
     if_ok c.write_image.result _ _ (λ v is s reads.
-    read_back c.args.self.now s c.num_retained.ensures.sound high (subst (λ bytes. Reads bytes c.args.self.now.seed_hash s) (is ∙ ap written c.state-2.ensures) reads)) c.write_image.ensures.ok
+    read_back c.args.self.now s sound short (subst (λ bytes. Reads bytes c.args.self.now.seed_hash s) (is ∙ ap written same) reads)) c.write_image.ensures.ok
