@@ -75,9 +75,12 @@ static kc_sums_intersection sums_meets[SLOTS];
 
 static unsigned slot(void) { return byte() % SLOTS; }
 static uint64_t seed(void) { return byte() % 8 == 0 ? 7 : KC_DEFAULT_SEED; }
+/* 4 to 11, or one that is refused: at 26 a tuple sketch that starts with all its slots takes 3 GiB, more than libFuzzer allows. */
 static uint32_t lg_k(void) {
     unsigned n = byte();
-    return n < 250 ? 4 + n % 8 : (uint32_t)number();
+    if (n < 250) return 4 + n % 8;
+    uint32_t any = (uint32_t)number();
+    return any < 4 || any > 26 ? any : 4 + any % 8;
 }
 
 /* A status of a call that reads no bytes, of one that reads an image, and of one that makes an object. */
