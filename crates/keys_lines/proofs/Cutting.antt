@@ -42,7 +42,7 @@ line_found hashing text lanes count hash enough counted few hashed =
     )
 
 -- the mask of the lanes from the k-th on
-mask-drop : (k : ℕ) (bs : List Bool) → mask_l bs / 2 ^ k ≡ mask_l (drop k bs)
+pub mask-drop : (k : ℕ) (bs : List Bool) → mask_l bs / 2 ^ k ≡ mask_l (drop k bs)
 mask-drop zero bs = omega arith
 mask-drop (suc k) [] = let e : 0 / 2 ^ suc k ≤ 0 = shr_le 0 (suc k) in omega (arith, e)
 mask-drop (suc k) (b ∷ bs) =
@@ -51,7 +51,7 @@ mask-drop (suc k) (b ∷ bs) =
     let half : all / 2 ^ 1 ≡ mask_l bs = elim b as (λ t. (cond t 1 0 + 2 * mask_l bs) / 2 ^ 1 ≡ mask_l bs) [ true ↦ omega arith | false ↦ omega arith ] in
     ap (λ j. all / 2 ^ j) (sym e) ∙ sym (shr-shr all 1 k) ∙ ap (λ m. m / 2 ^ k) half ∙ mask-drop k bs
 
-no_mark : trailing_zeros w64 0 ≡ 64
+pub no_mark : trailing_zeros w64 0 ≡ 64
 unfolding lib.Count.count_trailing_zeros
 no_mark = refl
 

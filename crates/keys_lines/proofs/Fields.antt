@@ -1,5 +1,5 @@
 -- Fields of a line that is read in pieces.
-use Rattle.std.proofs.Common.{◌≡◌, ℕ, zero, suc, ◌+◌, ◌-◌, eqb, cond, Bool, true, false, List, [], ◌∷◌, ◌++◌, length, get_or, refl, sym, ap, ◌∙◌, arith, inl, inr}
+use Rattle.std.proofs.Common.{◌≡◌, ℕ, zero, suc, ◌+◌, ◌-◌, eqb, cond, Bool, true, false, List, [], ◌∷◌, ◌++◌, ◌<◌, length, get_or, refl, sym, ap, ◌∙◌, arith, inl, inr}
 use Rattle.std.specs.Prelude.{min, ◌⊎◌}
 use Rattle.std.specs.List.{onto_first}
 use Rattle.std.proofs.lemmas.Bool.{ne_eqb, eq-eqb}
@@ -58,9 +58,28 @@ module _ (c : ℕ) where
   some_field [] = some [] []
   some_field (b ∷ line) = more_fields (eqb b c) b (fields_of c line) (some_field line)
 
-  one_field : (piece : List ℕ) → Lacks c piece → fields_of c piece ≡ piece ∷ []
+  two_step : (t : Bool) (b : ℕ) (fs : List (List ℕ)) → Nonempty fs → (length fs ≡ 1 → ⊥) → length (cond t ([] ∷ fs) (onto_first b fs)) ≡ 1 → ⊥
+  two_step true b _ (some f fs) many e = omega (arith, e)
+  two_step false b _ (some f fs) many e = many e
+
+  two_now : (fs : List (List ℕ)) → Nonempty fs → length ([] ∷ fs) ≡ 1 → ⊥
+  two_now _ (some f fs) e = omega (arith, e)
+
+  -- with a separator there are two fields
+  pub has_two : (line : List ℕ) (n : ℕ) → n < length line → get_or line n 0 ≡ c → length (fields_of c line) ≡ 1 → ⊥
+  has_two [] n lt is e = absurd (omega (arith, lt))
+  has_two (b ∷ line) zero lt is e = two_now (fields_of c line) (some_field line) (sym (ap (λ t. length (cond t ([] ∷ fields_of c line) (onto_first b (fields_of c line)))) (eq-eqb b c is)) ∙ e)
+  has_two (b ∷ line) (suc n) lt is e = two_step (eqb b c) b (fields_of c line) (some_field line) (has_two line n (omega (arith, lt)) is) e
+
+  -- without a separator there is one field
+  pub one_field : (piece : List ℕ) → Lacks c piece → fields_of c piece ≡ piece ∷ []
   one_field [] h = refl
   one_field (b ∷ bs) h = rw (first_not c b bs h) (ap (onto_first b) (one_field bs (lacks-rest c b bs h)))
+
+  -- a field that a separator ends is the first
+  pub ended_field : (piece rest : List ℕ) → Lacks c piece → fields_of c (piece ++ c ∷ rest) ≡ piece ∷ fields_of c rest
+  ended_field [] rest h = rw (eq-eqb c c refl) refl
+  ended_field (b ∷ bs) rest h = rw (first_not c b bs h) (ap (onto_first b) (ended_field bs rest (lacks-rest c b bs h)))
 
   piece_step : (t : Bool) (b : ℕ) (piece : List ℕ) (fs : List (List ℕ)) → Nonempty fs → cond t ([] ∷ onto_last piece fs) (onto_first b (onto_last piece fs)) ≡ onto_last piece (cond t ([] ∷ fs) (onto_first b fs))
   piece_step true b piece _ (some f fs) = refl

@@ -1,3 +1,4 @@
 pub mod Cutting
 pub mod Fields
+pub mod KeyPlaces
 pub mod Texts

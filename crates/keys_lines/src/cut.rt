@@ -12,7 +12,7 @@ pub(crate) const LANES: usize = 32;
 
 /// Bit k is 1 if byte k of the next `LANES` bytes, from 0, is `byte`.
 #[inline(always)]
-fn marks_of(text: &[u8], from: usize, byte: u8) -> u64
+pub(crate) fn marks_of(text: &[u8], from: usize, byte: u8) -> u64
     requires { from + LANES ≤ length text.now }
     ensures { result ≡ mask_l (map (λ x. x == byte) (chunk from LANES text.now)) }
 {

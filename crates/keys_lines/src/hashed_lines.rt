@@ -8,6 +8,7 @@ ghost use Rattle.keys_lines.specs.declared.cut.TheConstants.{LANES};
 ghost use Rattle.keys_lines.specs.declared.hashed_lines.TheConstants.{WINDOW};
 
 use crate::cut::{LANES, cut_line, first_of_lanes};
+use crate::field::field_hash;
 use crate::key::{Hashing, Key};
 use crate::open_line::line_hash;
 use sketch_base::MurmurHash3X64128;
@@ -28,15 +29,33 @@ fn ends_in_window(text: &[u8]) -> u64
         .to_bitmask()
 }
 
-/// The hash of the key of a line that is the first `count` of these bytes, fewer than all.
+/// The hash of the key of a line of `count` bytes that begins a text, fewer than `LANES`, which are at its front.
 #[inline(always)]
-fn front_hash(hashing: Hashing, bytes: &[u8; LANES], count: usize) -> u64
-    requires { count < LANES }
-    ensures { result ≡ line_hash hashing (take count bytes.now) }
+fn front_hash(hashing: Hashing, text: &[u8], front: &[u8; LANES], count: usize) -> u64
+    requires few { count < LANES }
+    requires enough { LANES ≤ length text.now }
+    requires front { front.now ≡ take LANES text.now }
+    ensures { result ≡ line_hash hashing (take count text.now) }
 {
     match hashing.key {
-        Key::Line => MurmurHash3X64128::of_front(hashing.seed, bytes, count).finish() >> 1,
-        Key::Field(_, _) => line_hash(hashing, &bytes[..count]),
+        Key::Line => MurmurHash3X64128::of_front(hashing.seed, front, count).finish() >> 1,
+        Key::Field(before, separator) => {
+            field_hash(hashing.seed, before, separator, text, count)
+        }
+    }
+}
+
+/// The hash of the key of a line of `count` bytes that begins a text.
+#[inline(always)]
+fn long_hash(hashing: Hashing, text: &[u8], count: usize) -> u64
+    requires whole { count ≤ length text.now }
+    ensures { result ≡ line_hash hashing (take count text.now) }
+{
+    match hashing.key {
+        Key::Field(before, separator) if LANES <= text.len() => {
+            field_hash(hashing.seed, before, separator, text, count)
+        }
+        _ => line_hash(hashing, &text[..count]),
     }
 }
 
@@ -49,13 +68,13 @@ fn hash_first_line(hashing: Hashing, text: &[u8]) -> Option<(u64, &[u8])>
     if let Some(front) = text.first_chunk::<LANES>() {
         let count = first_of_lanes(text, 0, b'\n');
         if count < LANES {
-            return Some((front_hash(hashing, front, count), &text[count + 1..]));
+            return Some((front_hash(hashing, text, front, count), &text[count + 1..]));
         }
     }
     let Some((line, rest)) = cut_line(text) else {
         return None;
     };
-    Some((line_hash(hashing, line), rest))
+    Some((long_hash(hashing, text, line.len()), rest))
 }
 
 /// The hashes of the first two lines of a text, and the text after them; `None` unless both are short and end within
@@ -86,8 +105,8 @@ fn hash_two_lines(hashing: Hashing, text: &[u8]) -> Option<(u64, u64, &[u8])>
     }
     let rest = &behind[second + 1..];
     Some((
-        front_hash(hashing, front, first),
-        front_hash(hashing, next, second),
+        front_hash(hashing, text, front, first),
+        front_hash(hashing, behind, next, second),
         rest,
     ))
 }

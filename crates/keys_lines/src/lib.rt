@@ -5,6 +5,7 @@
 #![tactic(auto)]
 
 mod cut;
+mod field;
 mod hashed_lines;
 mod key;
 mod open_key;
