@@ -8,11 +8,11 @@ use Rattle.keys_lines.specs.Lines.{Lacks}
 use Rattle.keys_lines.specs.Keys.{line_hash}
 use Rattle.keys_lines.specs.Hashed.{BeginsWithLine}
 use Rattle.keys_lines.specs.declared.key.Hashing.{Hashing}
-use Rattle.std.proofs.lemmas.Bool.{cases_lt, eqb-false, eqb-true}
+use Rattle.std.proofs.lemmas.Bool.{cases_lt, eqb-false, eqb-true, ne_eqb}
 use Rattle.std.proofs.lemmas.Grind.{common_steps}
 use Rattle.std.proofs.lemmas.List.{drop-map, drop-take, take_rest, length-take}
 use Rattle.std.proofs.lemmas.Nat.{shr-shr, shr_le}
-use Rattle.std.proofs.lemmas.Simd.{run_in_chunk_fails, run_in_chunk_stops, trailing_mask_l}
+use Rattle.std.proofs.lemmas.Simd.{first_set_mask_l, run_in_chunk_fails, run_in_chunk_stops, trailing_mask_l}
 
 module _ (byte : ℕ) (text : List ℕ) (from lanes count : ℕ) (room : from + lanes ≤ length text) (counted : count ≡ prefix_len (λ x. not (x == byte)) (chunk from lanes text)) where
   pub none_more : ((k : ℕ) → k < from → get_or text k 0 ≡ byte → ⊥) → (k : ℕ) → k < from + count → get_or text k 0 ≡ byte → ⊥
@@ -20,6 +20,17 @@ module _ (byte : ℕ) (text : List ℕ) (from lanes count : ℕ) (room : from + 
 
   pub present : count < lanes → get_or text (from + count) 0 ≡ byte
   present limited = eqb-true (get_or text (from + count) 0) byte (run_in_chunk_stops (λ (x : ℕ). eqb x byte) text from lanes count 0 room counted limited)
+
+-- the first byte of a kind in lanes, by their mask
+module _ (byte marks lanes : ℕ) (xs : List ℕ) (long : length xs ≡ lanes) (few : lanes ≤ 64) (marked : marks ≡ mask_l (map (λ x. x == byte) xs)) where
+  first_set : cond (eqb marks 0) lanes (trailing_zeros w64 marks) ≡ prefix_len (λ x. not (x == byte)) xs
+  first_set = ap (λ m. cond (eqb m 0) lanes (trailing_zeros w64 m)) marked ∙ first_set_mask_l (λ (x : ℕ). eqb x byte) xs lanes long few
+
+  pub none_marked : marks ≡ 0 → lanes ≡ prefix_len (λ x. not (x == byte)) xs
+  none_marked none = ap (λ m. cond (eqb m 0) lanes (trailing_zeros w64 m)) (sym none) ∙ first_set
+
+  pub first_marked_is : (marks ≡ 0 → ⊥) → trailing_zeros w64 marks ≡ prefix_len (λ x. not (x == byte)) xs
+  first_marked_is some = ap (λ b. cond b lanes (trailing_zeros w64 marks)) (sym (ne_eqb marks 0 some)) ∙ first_set
 
 pub parts_at : (byte : ℕ) (text : List ℕ) (n : ℕ) → n < length text → get_or text n 0 ≡ byte → text ≡ take n text ++ byte ∷ take (length text - (n + 1)) (drop (n + 1) text)
 parts_at byte text n lt is = grind (arith, common_steps)

@@ -11,5 +11,14 @@ invariant-loop-from l = record {
 abbrev pub decreases-loop-from : goal.decreases-loop-from
 decreases-loop-from l = length l.text - l.from
 
+abbrev pub invariant-loop-from-2 : goal.invariant-loop-from-2
+invariant-loop-from-2 l = record {
+  within : l.from ≤ length l.text;
+  none : (k : ℕ) → k < l.from → get_or l.text k 0 ≡ l.byte → ⊥;
+}
+
+abbrev pub decreases-loop-from-2 : goal.decreases-loop-from-2
+decreases-loop-from-2 l = length l.text - l.from
+
 abbrev pub invariant-loop-i : goal.invariant-loop-i
 invariant-loop-i l = (k : ℕ) → k < l.i → get_or l.text k 0 ≡ l.byte → ⊥
