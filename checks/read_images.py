@@ -148,10 +148,11 @@ def begin_flaw(kind, image):
 
 
 def told(kind, image):
-    """What the preamble of an image says, or None if the bytes don't begin with a whole one: theta, or a tuple sketch of u64."""
+    """What the preamble of an image says, or None if the bytes don't begin with a whole one: theta, a tuple sketch of u64, or `any`,
+    one whose summaries may have no bytes."""
     if begin_flaw(kind, image):
         return None
-    has_flags, size = (image[1] == 3, 8) if kind == "theta" else (True, 16)
+    has_flags, size = kind != "theta" or image[1] == 3, 8 if kind in ("theta", "any") else 16
     vacant = Told(8, 0, MAX_THETA, True, 8, None, True)
     if has_flags and image[5] & EMPTY or not has_flags and image[1] == 2 and image[0] == 1:
         return vacant

@@ -193,6 +193,16 @@ kc_status kc_theta_end_text(kc_theta *sketch, kc_text *text);
 /* Reads the sketch that the bytes begin with, under this seed; bytes after it are ignored. Serial versions 1, 2 and 3
  * are read. Refused with KC_INVALID_DATA if the bytes begin with no sketch of this seed, and with KC_OUT_OF_MEMORY. */
 kc_status kc_compact_read(kc_compact *sketch, const void *image, size_t count, uint64_t seed);
+/* Reads the sketch that the bytes are, all of them, under this seed. Refused with KC_INVALID_DATA if the bytes are no
+ * sketch of this seed, or others follow it; then why is written to *found, as kc_image_flaw does. Refused with
+ * KC_OUT_OF_MEMORY. */
+kc_status kc_compact_read_whole(kc_compact *sketch, const void *image, size_t count, uint64_t seed, kc_finding *found);
+/* Makes the sketch of a state, as kc_compact_state writes it, and of hashes in their order, which kc_compact_hashes
+ * writes; `ordered` is what kc_compact_is_ordered writes. Refused with KC_INVALID_DATA if no sketch of this seed has
+ * them: a hash is 0, repeated, or not below theta, they don't ascend though `ordered` is 1, they are not as many as the
+ * state retains, or a number is out of range. Refused with KC_OUT_OF_MEMORY. */
+kc_status kc_compact_of_hashes(kc_compact *sketch, const kc_state *state, uint32_t ordered, const uint64_t *hashes,
+                               size_t count, uint64_t seed);
 /* Frees the sketch of a handle, if it has one. */
 kc_status kc_compact_free(kc_compact *sketch);
 /* Copies a sketch into another handle. Refused with KC_OUT_OF_MEMORY. */
@@ -201,6 +211,9 @@ kc_status kc_compact_clone(const kc_compact *sketch, kc_compact *out);
 kc_status kc_compact_state(const kc_compact *sketch, kc_state *out);
 /* Writes the sketch's image, in the DataSketches format. Refused with KC_OUT_OF_MEMORY. */
 kc_status kc_compact_image(const kc_compact *sketch, void *out, size_t room, uint64_t *length);
+/* Writes the preamble of the image of a tuple sketch with the sketch's hashes, of 8, 16 or 24 bytes. The entries follow
+ * it in the order of the hashes: each is a hash of eight bytes, the lowest first, and then a summary of your own. */
+kc_status kc_compact_tuple_preamble(const kc_compact *sketch, void *out, size_t room, uint64_t *length);
 /* Writes the sketch's hashes, in the order of its image, as kc_theta_hashes does. */
 kc_status kc_compact_hashes(const kc_compact *sketch, uint64_t *hashes, size_t room, uint64_t *count);
 /* Writes the hash of the sketch's seed, of 16 bits, as kc_seed_hash does. */
@@ -329,6 +342,13 @@ kc_status kc_images_difference(const void *first, size_t first_count, const void
 kc_status kc_image_flaw(const void *image, size_t count, uint64_t seed, kc_finding *out);
 /* Writes the same of bytes that are not one image of a tuple sketch of sums. */
 kc_status kc_sums_image_flaw(const void *image, size_t count, uint64_t seed, kc_finding *out);
+/* Writes what the preamble of the image of a tuple sketch says, whose summaries may have any length: the state of the
+ * sketch; 1 to *ordered if its hashes ascend, else 0; and at which byte its first entry begins. The bytes have at least
+ * eight for each entry, those of its hash. Refused with KC_INVALID_DATA if the preamble is not that of a tuple sketch
+ * of this seed, or the bytes are too few; then why is written to *found, as kc_image_flaw does, with the least length
+ * that the image may have. */
+kc_status kc_tuple_head(const void *image, size_t count, uint64_t seed, kc_state *state, uint32_t *ordered,
+                        uint64_t *start, kc_finding *found);
 
 /* ---- Tuple sketches of sums ---- */
 
@@ -395,6 +415,9 @@ kc_status kc_sums_add_strings(kc_sums *sums, const void *bytes, size_t bytes_cou
 
 /* Reads the sketch that the bytes begin with, under this seed, as kc_compact_read does. */
 kc_status kc_compact_sums_read(kc_compact_sums *sums, const void *image, size_t count, uint64_t seed);
+/* Reads the sketch that the bytes are, all of them, under this seed, as kc_compact_read_whole does. */
+kc_status kc_compact_sums_read_whole(kc_compact_sums *sums, const void *image, size_t count, uint64_t seed,
+                                     kc_finding *found);
 /* Frees the sketch of a handle, if it has one. */
 kc_status kc_compact_sums_free(kc_compact_sums *sums);
 /* Copies a sketch into another handle. Refused with KC_OUT_OF_MEMORY. */

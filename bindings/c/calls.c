@@ -178,6 +178,17 @@ kc_status kc_compact_read(kc_compact *sketch, const void *image, size_t count, u
     return kcp_compact_read(sketch, INPUT(image), count, seed);
 }
 
+kc_status kc_compact_read_whole(kc_compact *sketch, const void *image, size_t count, uint64_t seed, kc_finding *found) {
+    REFUSE_UNLESS(sketch != NULL && IS_BUFFER(image, count) && found != NULL);
+    return kcp_compact_read_whole(sketch, INPUT(image), count, seed, found);
+}
+
+kc_status kc_compact_of_hashes(kc_compact *sketch, const kc_state *state, uint32_t ordered, const uint64_t *hashes,
+                               size_t count, uint64_t seed) {
+    REFUSE_UNLESS(sketch != NULL && state != NULL && IS_BUFFER(hashes, count));
+    return kcp_compact_of_hashes(sketch, state, ordered, NUMBERS(hashes, 0), count, seed);
+}
+
 kc_status kc_compact_free(kc_compact *sketch) {
     REFUSE_UNLESS(sketch != NULL);
     kcp_compact_free(sketch);
@@ -200,6 +211,12 @@ kc_status kc_compact_image(const kc_compact *sketch, void *out, size_t room, uin
     REFUSE_UNLESS(sketch != NULL && IS_BUFFER(out, room) && length != NULL);
     kc_compact sketch_reader = *sketch;
     return kcp_compact_image(&sketch_reader, OUTPUT(out, 0), room, length);
+}
+
+kc_status kc_compact_tuple_preamble(const kc_compact *sketch, void *out, size_t room, uint64_t *length) {
+    REFUSE_UNLESS(sketch != NULL && IS_BUFFER(out, room) && length != NULL);
+    kc_compact sketch_reader = *sketch;
+    return kcp_compact_tuple_preamble(&sketch_reader, OUTPUT(out, 0), room, length);
 }
 
 kc_status kc_compact_hashes(const kc_compact *sketch, uint64_t *hashes, size_t room, uint64_t *count) {
@@ -430,6 +447,12 @@ kc_status kc_sums_image_flaw(const void *image, size_t count, uint64_t seed, kc_
     return kcp_sums_image_flaw(INPUT(image), count, seed, out);
 }
 
+kc_status kc_tuple_head(const void *image, size_t count, uint64_t seed, kc_state *state, uint32_t *ordered,
+                        uint64_t *start, kc_finding *found) {
+    REFUSE_UNLESS(IS_BUFFER(image, count) && state != NULL && ordered != NULL && start != NULL && found != NULL);
+    return kcp_tuple_head(INPUT(image), count, seed, state, ordered, start, found);
+}
+
 /* ---- Tuple sketches of sums ---- */
 
 kc_status kc_sums_new(kc_sums *sums, uint32_t lg_k, uint64_t seed) {
@@ -555,6 +578,12 @@ kc_status kc_sums_add_strings(kc_sums *sums, const void *bytes, size_t bytes_cou
 kc_status kc_compact_sums_read(kc_compact_sums *sums, const void *image, size_t count, uint64_t seed) {
     REFUSE_UNLESS(sums != NULL && IS_BUFFER(image, count));
     return kcp_compact_sums_read(sums, INPUT(image), count, seed);
+}
+
+kc_status kc_compact_sums_read_whole(kc_compact_sums *sums, const void *image, size_t count, uint64_t seed,
+                                     kc_finding *found) {
+    REFUSE_UNLESS(sums != NULL && IS_BUFFER(image, count) && found != NULL);
+    return kcp_compact_sums_read_whole(sums, INPUT(image), count, seed, found);
 }
 
 kc_status kc_compact_sums_free(kc_compact_sums *sums) {

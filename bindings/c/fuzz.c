@@ -275,7 +275,52 @@ static void call_batch(void) {
     free(image.bytes);
 }
 
-/* One status for one image, whichever call reads it; bytes behind it don't matter. */
+/* The image of a tuple sketch whose summaries have one byte, of the keys of another: its head is that of the keys. */
+static void call_tuples(const kc_compact *keys, uint64_t of) {
+    kc_state state, said;
+    kc_finding found = {0, 0, 0};
+    kc_compact again = {0}, foreign = {0};
+    uint64_t length = 0, count = 0, start = 0;
+    uint32_t ordered = 9, is_ordered = 9;
+    if (kc_compact_state(keys, &state) != KC_OK) return;
+    Buffer image = buffer(24 + 9 * (size_t)state.retained), hashes = buffer(8 * (size_t)state.retained);
+    uint64_t *listed = (uint64_t *)(void *)hashes.bytes;
+    MUST(kc_compact_hashes(keys, listed, (size_t)state.retained, &count) == KC_OK && count == state.retained && kc_compact_is_ordered(keys, &is_ordered) == KC_OK);
+    MUST(kc_compact_tuple_preamble(keys, image.bytes, 7, &length) == KC_TOO_SMALL && kc_compact_tuple_preamble(keys, image.bytes, 24, &length) == KC_OK && length <= 24);
+    for (size_t i = 0; i < count; i++) memcpy(image.bytes + length + 9 * i, listed + i, 8), image.bytes[length + 9 * i + 8] = (unsigned char)i;
+    image.count = (size_t)length + 9 * count;
+    kc_status status = kc_tuple_head(image.bytes, image.count, of, &said, &ordered, &start, &found);
+    MUST(status == KC_OK ? memcmp(&said, &state, sizeof said) == 0 && ordered == is_ordered && start == length : status == KC_INVALID_DATA && found.flaw == KC_FLAW_SEED);
+    if (status == KC_OK) {
+        status = kc_compact_of_hashes(&again, &said, ordered, listed, count, of);
+        MUST(status == KC_OK && kc_compact_state(&again, &said) == KC_OK && memcmp(&said, &state, sizeof said) == 0);
+        if (count > 1) MUST(kc_compact_of_hashes(&foreign, &said, ordered, listed, count - 1, of) == KC_INVALID_DATA && foreign.object == NULL);
+    }
+    kc_compact_free(&again);
+    free(image.bytes);
+    free(hashes.bytes);
+}
+
+/* Any state, order and hashes: what is made of them has them. */
+static void call_hashes(void) {
+    kc_state state = {byte() % 5, byte() % 2 == 0 ? KC_MAX_THETA : number(), byte() % 8 == 0}, said;
+    uint64_t hashes[4], listed[4], count = 0;
+    uint32_t ordered = byte() % 3, is_ordered = 9;
+    size_t some = byte() % 8 == 0 ? byte() % 5 : (size_t)state.retained % 5;
+    kc_compact made = {0};
+    for (size_t i = 0; i < 4; i++) hashes[i] = byte() % 2 == 0 ? byte() : number() & KC_MAX_THETA;
+    if (some > 4) some = 4;
+    if (read_as(kc_compact_of_hashes(&made, &state, ordered, hashes, some, seed())) != KC_OK) {
+        MUST(made.object == NULL);
+        return;
+    }
+    MUST(kc_compact_state(&made, &said) == KC_OK && memcmp(&said, &state, sizeof said) == 0 && kc_compact_is_ordered(&made, &is_ordered) == KC_OK && is_ordered == ordered);
+    MUST(kc_compact_hashes(&made, listed, 4, &count) == KC_OK && count == some && (some == 0 || memcmp(listed, hashes, 8 * some) == 0));
+    check_state(&said);
+    kc_compact_free(&made);
+}
+
+/* One status for one image, whichever call reads it; bytes behind it don't matter but to a call that reads it whole. */
 static void call_images(void) {
     Buffer first = an_image(), second = an_image(), out = buffer(byte());
     unsigned i = slot();
@@ -284,8 +329,25 @@ static void call_images(void) {
     kc_compact form = {0};
     kc_status status = kc_image_state(first.bytes, first.count, of, &state);
     MUST(read_as(kc_compact_read(&form, first.bytes, first.count, of)) == status);
-    if (status == KC_OK) check_state(&state);
+    if (status == KC_OK) check_state(&state), call_tuples(&form, of);
     kc_compact_free(&form);
+    kc_finding found = {0, 0, 0}, flaw = {0, 0, 0};
+    kc_status whole = read_as(kc_compact_read_whole(&form, first.bytes, first.count, of, &found));
+    MUST(kc_image_flaw(first.bytes, first.count, of, &flaw) == KC_OK && (whole == KC_OK) == (status == KC_OK && flaw.length == first.count));
+    MUST(whole == KC_OK ? found.flaw == 0 : form.object == NULL && memcmp(&found, &flaw, sizeof flaw) == 0);
+    kc_compact_free(&form);
+    kc_compact_sums sums_form = {0};
+    found = (kc_finding){0, 0, 0};
+    whole = read_as(kc_compact_sums_read_whole(&sums_form, first.bytes, first.count, of, &found));
+    MUST(kc_sums_image_flaw(first.bytes, first.count, of, &flaw) == KC_OK && (whole == KC_OK ? found.flaw == 0 && flaw.length == first.count : memcmp(&found, &flaw, sizeof flaw) == 0));
+    MUST((whole == KC_OK) == (sums_form.object != NULL));
+    uint64_t start = 0;
+    uint32_t ordered = 9;
+    if (read_as(kc_tuple_head(first.bytes, first.count, of, &state, &ordered, &start, &found)) == KC_OK) {
+        check_state(&state);
+        MUST(ordered <= 1 && start + 8 * state.retained <= first.count);
+    } else MUST(whole != KC_OK);
+    kc_compact_sums_free(&sums_form);
     status = kc_images_intersect(first.bytes, first.count, second.bytes, second.count, of, out.bytes, out.count, &length);
     if (status != KC_TOO_SMALL) read_as(status);
     status = kc_images_difference(first.bytes, first.count, second.bytes, second.count, of, out.bytes, out.count, &length);
@@ -333,13 +395,14 @@ int LLVMFuzzerTestOneInput(const unsigned char *bytes, size_t count) {
         if (i > 0) MAKES(&sums_unions[i], kc_sums_union_new_by_mode(&sums_unions[i], 4 + i, KC_DEFAULT_SEED, 8, KC_MAX_THETA, i % 3));
     }
     while (left > 0) {
-        switch (byte() % 12) {
+        switch (byte() % 13) {
         case 0: case 1: case 2: call_theta(); break;
         case 3: case 4: call_sums(); break;
         case 5: case 6: call_operators(); break;
         case 7: case 8: call_sums_operators(); break;
         case 9: call_batch(); break;
         case 10: call_images(); break;
+        case 11: call_hashes(); break;
         default: call_estimates(); break;
         }
     }

@@ -32,7 +32,7 @@ static uint64_t of_numbers[MOST], of_strings[MOST], ends[MOST];
 static char text[MOST * 5];
 
 /* The calls that request memory, and how many were refused it. */
-static struct { const char *name; long refusals; } called[80];
+static struct { const char *name; long refusals; } called[96];
 
 /* The status of a call: that of memory exactly if a request was refused. */
 static kc_status counted(const char *name, kc_status status) {
@@ -191,6 +191,8 @@ static void copies_and_images(void) {
     kc_theta s = {0}, copy = {0};
     kc_compact c = {0}, d = {0}, r = {0};
     kc_state before, after;
+    kc_finding found = {7, 7, 7};
+    static uint64_t hashes[MOST];
     uint64_t length = 7;
     UNREFUSED(
         WANT(kc_theta_new(&s, LG_K, SEED) == KC_OK && kc_theta_update_hashes(&s, of_numbers, updates) == KC_OK && kc_theta_state(&s, &before) == KC_OK));
@@ -212,7 +214,13 @@ static void copies_and_images(void) {
         WANT(IS(status) && (status == KC_OK ? length == image_length && memcmp(out, image, length) == 0 : length == 7 && out[0] == 7));
         status = CALL(compact_clone, &d, &r);
         WANT(MAKES(status, r) && kc_compact_free(&r) == KC_OK);
+        uint64_t count = 0;
+        WANT(kc_compact_state(&d, &after) == KC_OK && kc_compact_hashes(&d, hashes, MOST, &count) == KC_OK);
+        status = CALL(compact_of_hashes, &r, &after, 1, hashes, (size_t)count, SEED);
+        WANT(MAKES(status, r) && kc_compact_free(&r) == KC_OK);
     }
+    status = CALL(compact_read_whole, &r, image, image_length, SEED, &found);
+    WANT(MAKES(status, r) && kc_compact_free(&r) == KC_OK && found.flaw == 7);
     after = before;
     status = CALL(image_state, image, image_length, SEED, &after);
     WANT(IS(status) && same(&before, &after) == (status != KC_OK));
@@ -377,6 +385,9 @@ static void sums_of_kind(int kind) {
         WANT(before.retained > 1 << LG_K && (status == KC_OK ? after.retained == 1 << LG_K && after.theta < before.theta : same(&before, &after)));
         WANT(kc_sums_trim(&m) == KC_OK && kc_sums_state(&m, &after) == KC_OK && after.retained == 1 << LG_K);
     }
+    kc_finding found = {7, 7, 7};
+    status = CALL(compact_sums_read_whole, &d, sums_image, sums_length, SEED, &found);
+    WANT(MAKES(status, d) && kc_compact_sums_free(&d) == KC_OK && found.flaw == 7);
     status = CALL(compact_sums_read, &d, sums_image, sums_length, SEED);
     WANT(MAKES(status, d));
     if (d.object != NULL) {

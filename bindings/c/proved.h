@@ -33,10 +33,15 @@ kc_status kcp_theta_update_text(kc_theta *sketch, kc_text *text, const uint8_t *
 kc_status kcp_theta_end_text(kc_theta *sketch, kc_text *text);
 
 kc_status kcp_compact_read(kc_compact *sketch, const uint8_t *image, size_t count, uint64_t seed);
+kc_status kcp_compact_read_whole(kc_compact *sketch, const uint8_t *image, size_t count, uint64_t seed,
+                                 kc_finding *found);
+kc_status kcp_compact_of_hashes(kc_compact *sketch, const kc_state *state, uint32_t ordered, const uint64_t *hashes,
+                                size_t count, uint64_t seed);
 void kcp_compact_free(kc_compact *sketch);
 kc_status kcp_compact_clone(kc_compact *sketch, kc_compact *out);
 kc_status kcp_compact_state(kc_compact *sketch, kc_state *out);
 kc_status kcp_compact_image(kc_compact *sketch, uint8_t *out, size_t out_room, uint64_t *length);
+kc_status kcp_compact_tuple_preamble(kc_compact *sketch, uint8_t *out, size_t out_room, uint64_t *length);
 kc_status kcp_compact_hashes(kc_compact *sketch, uint64_t *hashes, size_t hashes_room, uint64_t *count);
 kc_status kcp_compact_seed_hash(kc_compact *sketch, uint32_t *out);
 kc_status kcp_compact_is_ordered(kc_compact *sketch, uint32_t *out);
@@ -82,6 +87,8 @@ kc_status kcp_images_difference(const uint8_t *first, size_t first_count, const 
                                 uint64_t seed, uint8_t *out, size_t out_room, uint64_t *length);
 kc_status kcp_image_flaw(const uint8_t *image, size_t count, uint64_t seed, kc_finding *out);
 kc_status kcp_sums_image_flaw(const uint8_t *image, size_t count, uint64_t seed, kc_finding *out);
+kc_status kcp_tuple_head(const uint8_t *image, size_t count, uint64_t seed, kc_state *state, uint32_t *ordered,
+                         uint64_t *start, kc_finding *found);
 
 kc_status kcp_sums_new(kc_sums *sums, uint32_t lg_k, uint64_t seed);
 kc_status kcp_sums_new_with(kc_sums *sums, uint32_t lg_k, uint64_t seed, uint32_t resize_factor,
@@ -110,6 +117,8 @@ kc_status kcp_sums_add_strings(kc_sums *sums, const uint8_t *bytes, size_t bytes
                                size_t ends_count, const uint64_t *values, size_t values_count, uint64_t *added);
 
 kc_status kcp_compact_sums_read(kc_compact_sums *sums, const uint8_t *image, size_t count, uint64_t seed);
+kc_status kcp_compact_sums_read_whole(kc_compact_sums *sums, const uint8_t *image, size_t count, uint64_t seed,
+                                      kc_finding *found);
 void kcp_compact_sums_free(kc_compact_sums *sums);
 kc_status kcp_compact_sums_clone(kc_compact_sums *sums, kc_compact_sums *out);
 kc_status kcp_compact_sums_state(kc_compact_sums *sums, kc_state *out);

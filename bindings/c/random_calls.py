@@ -19,11 +19,12 @@ import read_images  # noqa: E402
 from model_hash import hash_of  # noqa: E402
 from model_operators import Intersection, Union, difference  # noqa: E402
 from model_policies import Sums  # noqa: E402
-from model_sketches import Sketch, decimal_text, fraction, read_image  # noqa: E402
-from model_table import MAX_THETA, Refusal, Settings, Unspecified  # noqa: E402
+from model_sketches import Compact, Sketch, decimal_text, fraction, read_image  # noqa: E402
+from model_table import MAX_THETA, Refusal, Settings, Unspecified, check_seed  # noqa: E402
 
 STATUSES = {"argument": 1, "data": 2, "memory": 3, "policy": 4, "failed": 5}
-OK, ARGUMENT, POLICY, TOO_SMALL = 0, 1, 4, 6
+OK, ARGUMENT, DATA, POLICY, TOO_SMALL = 0, 1, 2, 4, 6
+FLAWS = ("Hexadecimal", "Short", "Family", "Version", "BigEndian", "Seed", "Cut", "Longer", "Damaged", "Malformed", "Theta")
 SEEDS = (9001, 9001, 9001, 9001, 9001, 9001, 9001, 7)
 SLOTS, ROOM = 4, 1 << 16
 FAMILIES = {
@@ -83,6 +84,40 @@ def expected(step):
         return STATUSES[refusal.args[0]], None
     except Unspecified:
         return None, None
+
+
+class Finding(ctypes.Structure):
+    """What is found in bytes."""
+
+    _fields_ = [("flaw", u32), ("found", u32), ("length", u64)]
+
+    def numbers(self):
+        return self.flaw, self.found, self.length
+
+
+def finding(kind, image, seed_hash):
+    """The numbers of the flaw of bytes that are not one image, of the byte that it names, and of the length by the preamble."""
+    name, _, byte = read_images.flaw_of(kind, image, seed_hash).partition("(")
+    it = read_images.told(kind, image)
+    return FLAWS.index(name) + 1, int(byte.rstrip(")") or 0), it.length if it else 0
+
+
+def read_whole(kind, image, seed):
+    """The sketch that bytes are, all of them."""
+    sketch = read_image(kind, image, seed)
+    if read_images.told(kind, image).length != len(image):
+        raise Refusal("data")
+    return sketch
+
+
+def of_hashes(state, order, hashes, seed):
+    """The sketch of a state, an order and hashes."""
+    own_hash, (retained, theta, empty) = check_seed(seed, "data"), state
+    if order > 1 or empty > 1 or retained != len(hashes) or not 1 <= theta <= MAX_THETA or len(set(hashes)) < len(hashes):
+        raise Refusal("data")
+    if any(not 1 <= it < theta for it in hashes) or order and hashes != sorted(hashes) or empty and (hashes or theta < MAX_THETA or not order):
+        raise Refusal("data")
+    return Compact(None if empty else read_images.Held(theta, bool(order), [(it, None) for it in hashes]), own_hash)
 
 
 class Program:
@@ -288,6 +323,55 @@ class Program:
         out, image, seed = self.pick("compact"), self.image(), self.chance.choice(SEEDS)
         arguments = (out.ref(), image, size(len(image)), u64(seed))
         self.make("compact", out, f"{self.names['compact']}_read", lambda: read_image(self.kind, image, seed), *arguments)
+
+    def call_read_whole(self):
+        out, image, seed = self.pick("compact"), self.image(), self.chance.choice(SEEDS)
+        found, is_free = Finding(), out.model is None
+        arguments = (out.ref(), image, size(len(image)), u64(seed), byref(found))
+        self.make("compact", out, f"{self.names['compact']}_read_whole", lambda: read_whole(self.kind, image, seed), *arguments)
+        is_flawed = is_free and out.model is None
+        equal("what is found in an image", found.numbers(), finding(self.kind, image, seed_hashes[seed]) if is_flawed else (0, 0, 0))
+
+    def call_tuple_head(self):
+        """The preamble of an image of a tuple sketch, whose summaries are not looked at."""
+        image, seed, state, ordered, start, found = self.image(), self.chance.choice(SEEDS), State(), u32(), u64(), Finding()
+        flaw, it = read_images.preamble_flaw("any", image, seed_hashes[seed]), read_images.told("any", image)
+        wanted = ((0, 0, 0), 0, 0) if flaw else ((it.count, it.theta, int(it.is_empty)), int(it.ordered), it.start)
+        arguments = (image, size(len(image)), u64(seed), state, byref(ordered), byref(start), byref(found))
+        equal("tuple_head", self.calls("tuple_head", *arguments), DATA if flaw else OK)
+        equal("the head of an image", (tuple(state), ordered.value, start.value), wanted)
+        equal("what is found in its preamble", found.numbers(), finding("any", image, seed_hashes[seed]) if flaw else (0, 0, 0))
+
+    def call_of_hashes(self):
+        """A theta sketch of the state, the order and the hashes of another, of which some are wrong; and a preamble for its tuples."""
+        chance, calls, handle, out, seed = self.chance, self.calls, *self.chance.sample(self.pools["compact"], 2), self.chance.choice(SEEDS)
+        model = handle.model
+        if self.policy is not None or model is None or model.open_order:
+            return
+        hashes, state, order = [hash for hash, _ in model.entries()], [model.num_retained(), model.theta64(), int(model.is_empty())], int(model.ordered)
+        whole = read_images.image_of("u64", model.held and model.held._replace(entries=[(it, 0) for it in hashes]), model.seed_hash)
+        front = whole[: len(whole) - 16 * len(hashes)]
+        room = chance.choice((24, 24, 24, 8, 0))
+        equal("compact_tuple_preamble", calls("compact_tuple_preamble", handle.ref(), calls.out, size(room), byref(calls.length)), OK if room >= len(front) else TOO_SMALL)
+        equal("the length of a preamble", calls.length.value, len(front))
+        if room >= len(front):
+            equal("a preamble", calls.out.raw[: len(front)].hex(), front.hex())
+        for _ in range(chance.choice((0, 0, 1, 2))):
+            wrong = chance.randrange(6)
+            if wrong == 0:
+                order = chance.randrange(3)
+            elif wrong == 1:
+                state[chance.randrange(3)] = chance.choice((0, 1, 2, MAX_THETA, MAX_THETA + 1, 2**64 - 1))
+            elif wrong == 2:
+                chance.shuffle(hashes)
+            elif wrong == 3 and hashes:
+                hashes[chance.randrange(len(hashes))] = chance.choice((0, hashes[0], state[1], max(state[1] - 1, 0)))
+            elif wrong == 4:
+                hashes, state[0] = hashes[: len(hashes) // 2], chance.choice((state[0], len(hashes) // 2))
+            elif wrong == 5:
+                state[1] = max(hashes, default=5)
+        arguments = (out.ref(), State(*state), u32(order), (u64 * len(hashes))(*hashes), size(len(hashes)), u64(seed))
+        self.make("compact", out, "compact_of_hashes", lambda: of_hashes(state, order, hashes, seed), *arguments)
 
     def call_images(self):
         """Operations on theta images alone."""

@@ -190,6 +190,7 @@ static void read_more_of_theta(part *p) {
     kc_compact made = {0};
     WANT(numbers != NULL && kc_theta_hashes(&theta, numbers, room, &count) == KC_OK && count >= 1024);
     WANT(kc_compact_hashes(&first, numbers, room, &count) == KC_OK && count >= 1024 && numbers[0] < numbers[1]);
+    WANT(kc_compact_tuple_preamble(&first, numbers, 24, &count) == KC_OK && count >= 16);
     free(numbers);
     WANT(kc_compact_image(&first, p->bytes[p->images], ROOM, &p->lengths[p->images]) == KC_OK);
     p->images++;

@@ -141,6 +141,7 @@ static void operators(void) {
     requests = bytes = 0;
     WANT(kc_intersection_result(&i, &r) == KC_OK && requests == 1 && kc_compact_free(&r) == KC_OK);
     object = bytes;
+    NOTHING(KC_OK, kc_compact_tuple_preamble(&c, out, ROOM, &length));
     NOTHING(KC_INVALID_ARGUMENT, kc_difference(&e, &d, SEED, &r));
     ASKS(KC_OK, 1, object, kc_difference(&d, &e, SEED, &r));
     NOTHING(KC_INVALID_ARGUMENT, kc_difference(&e, &d, SEED, &r));
@@ -291,10 +292,14 @@ static void images_of_sums(void) {
         {"02030901000acc93 0200000000000000 0900000000000000 0200000000000000 0700000000000000 0100000000000000", 2, 2 * 24, KC_OK},
     };
     uint64_t object = 0, length;
+    kc_state state;
+    kc_finding what;
+    uint32_t ordered;
     for (size_t n = 0; n < sizeof rows / sizeof *rows; n++) {
         unsigned char image[64];
         kc_compact_sums c = {0};
         size_t count = spelled(rows[n].text, image);
+        NOTHING(rows[n].status, kc_tuple_head(image, count, SEED, &state, &ordered, &length, &what));
         requests = bytes = 0;
         kc_status status = kc_compact_sums_read(&c, image, count, SEED);
         WANT(status == rows[n].status);

@@ -28,6 +28,8 @@ static kc_compact_sums compact_sums, other_sums, out_sums;
 static kc_sums_union both_sums, result_sums;
 static kc_sums_intersection shared_sums;
 static kc_state state;
+static kc_finding found;
+static uint32_t ordered;
 static kc_wide wide = {1234567, 1}, lower, upper;
 static unsigned char image[ROOM], mixed[ROOM], sums_image[ROOM], written[ROOM];
 static uint64_t image_length, mixed_length, sums_length, length, added, decimals, hash;
@@ -102,9 +104,13 @@ static void prepare(void) {
     X(theta_compact, OK(kc_theta_compact(&theta, &out)); FREE_OUT) \
     X(compact_read, OK(kc_compact_read(&out, image, image_length, SEED)); FREE_OUT) \
     X(compact_read_unordered, OK(kc_compact_read(&out, mixed, mixed_length, SEED)); FREE_OUT) \
+    X(compact_read_whole, OK(kc_compact_read_whole(&out, mixed, mixed_length, SEED, &found)); FREE_OUT) \
     X(compact_clone, OK(kc_compact_clone(&compact, &out)); FREE_OUT) \
     X(compact_image, OK(kc_compact_image(&compact, written, ROOM, &length))) \
     X(compact_hashes, OK(kc_compact_hashes(&compact, (uint64_t *)(void *)written, ROOM / 8, &length))) \
+    X(compact_of_hashes, OK(kc_compact_of_hashes(&out, &state, 1, (const uint64_t *)(void *)written, (size_t)length, SEED)); FREE_OUT) \
+    X(compact_tuple_preamble, OK(kc_compact_tuple_preamble(&compact, written, ROOM, &length))) \
+    X(tuple_head, OK(kc_tuple_head(sums_image, sums_length, SEED, &state, &ordered, &length, &found))) \
     X(union_add, OK(kc_union_add(&both, &theta))) \
     X(union_add_few, OK(kc_union_add(&both, &few))) \
     X(union_reset, OK(kc_union_reset(&both))) \
@@ -138,6 +144,7 @@ static void prepare(void) {
     X(sums_entries, OK(kc_sums_entries(&sums, (uint64_t *)(void *)written, (uint64_t *)(void *)written + COUNT, COUNT, &length))) \
     X(sums_compact, OK(kc_sums_compact(&sums, &out_sums)); FREE_OUT) \
     X(compact_sums_read, OK(kc_compact_sums_read(&out_sums, sums_image, sums_length, SEED)); FREE_OUT) \
+    X(compact_sums_read_whole, OK(kc_compact_sums_read_whole(&out_sums, sums_image, sums_length, SEED, &found)); FREE_OUT) \
     X(compact_sums_image, OK(kc_compact_sums_image(&compact_sums, written, ROOM, &length))) \
     X(compact_sums_clone, OK(kc_compact_sums_clone(&compact_sums, &out_sums)); FREE_OUT) \
     X(compact_sums_total, OK(kc_compact_sums_total(&compact_sums, &wide))) \

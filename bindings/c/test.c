@@ -949,6 +949,177 @@ static void flaws(void) {
     kc_theta_free(&s), kc_sums_free(&t);
 }
 
+/* The sketch of a state, an order and hashes, as an image; 0 bytes if it is refused with KC_INVALID_DATA. */
+static uint64_t made_of(kc_state state, uint32_t ordered, const uint64_t *some, size_t count, uint64_t seed, unsigned char *to) {
+    kc_compact made = {0};
+    uint64_t length = 0;
+    kc_status status = kc_compact_of_hashes(&made, &state, ordered, some, count, seed);
+    WANT(status == KC_OK ? kc_compact_image(&made, to, 1 << 17, &length) == KC_OK : status == KC_INVALID_DATA && made.object == NULL);
+    kc_compact_free(&made);
+    return length;
+}
+
+/* Whether a sketch is made again of its state, order and hashes. */
+static int is_made_again(const kc_compact *sketch) {
+    static uint64_t listed[8192];
+    uint64_t count = 0, length = 0;
+    WANT(kc_compact_hashes(sketch, listed, 8192, &count) == KC_OK && kc_compact_image(sketch, out, sizeof out, &length) == KC_OK);
+    return made_of(state_of(sketch), (uint32_t)is_ordered(sketch), listed, count, SEED, b_image) == length && memcmp(out, b_image, length) == 0;
+}
+
+/* Sketches of hashes. */
+static void of_hashes(void) {
+    kc_theta s = {0};
+    kc_compact c = {0}, d = {0};
+    const uint64_t none[] = {0}, three[] = {5, 7, 9}, turned[] = {7, 5, 9}, twice[] = {7, 5, 7}, zero[] = {0, 5, 7};
+    const kc_state exact = {3, KC_MAX_THETA, 0}, estimating = {3, 10, 0}, empty = {0, KC_MAX_THETA, 1};
+    WANT(kc_theta_new(&s, 12, SEED) == KC_OK && kc_theta_compact(&s, &c) == KC_OK && is_made_again(&c) && kc_compact_free(&c) == KC_OK);
+    WANT(kc_theta_update_u64(&s, 1) == KC_OK && kc_theta_compact_with(&s, 0, &c) == KC_OK && is_made_again(&c) && kc_compact_free(&c) == KC_OK);
+    for (uint64_t most = 5; most <= 100000; most += 99995) {
+        numbers(&s, 0, most);
+        for (uint32_t ordered = 0; ordered < 2; ordered++) {
+            WANT(kc_theta_compact_with(&s, ordered, &c) == KC_OK && is_made_again(&c) && kc_compact_free(&c) == KC_OK);
+        }
+    }
+    WANT(made_of(exact, 1, three, 3, SEED, out) == 40 && memcmp(out, "\2\3\3\0\0\x1a\xcc\x93\3\0\0\0\0\0\0\0\5\0\0\0\0\0\0\0\7", 25) == 0);
+    WANT(made_of(estimating, 0, turned, 3, SEED, out) == 48 && out[0] == 3 && out[5] == 0x0a && out[16] == 10 && out[24] == 7);
+    WANT(made_of((kc_state){0, KC_MAX_THETA, 0}, 0, NULL, 0, SEED, out) == 16 && made_of((kc_state){0, 1, 0}, 1, none, 0, SEED, out) == 24 && made_of(empty, 1, NULL, 0, SEED, out) == 8);
+    /* no sketch has these: a hash that is 0, repeated or not below theta, hashes that don't ascend, or more or fewer of them */
+    WANT(made_of(exact, 0, zero, 3, SEED, out) == 0 && made_of(exact, 1, zero, 3, SEED, out) == 0 && made_of(exact, 0, twice, 3, SEED, out) == 0);
+    WANT(made_of((kc_state){3, 9, 0}, 0, turned, 3, SEED, out) == 0 && made_of((kc_state){3, 9, 0}, 1, three, 3, SEED, out) == 0);
+    WANT(made_of((kc_state){3, 8, 0}, 0, three, 3, SEED, out) == 0 && made_of(exact, 1, turned, 3, SEED, out) == 0);
+    WANT(made_of(exact, 1, three, 2, SEED, out) == 0 && made_of((kc_state){2, KC_MAX_THETA, 0}, 1, three, 3, SEED, out) == 0 && made_of(exact, 1, NULL, 0, SEED, out) == 0);
+    /* .. a theta, an order or a mark of the empty sketch that is out of range, and an empty sketch that isn't as the others are */
+    WANT(made_of((kc_state){3, 0, 0}, 1, three, 3, SEED, out) == 0 && made_of((kc_state){3, KC_MAX_THETA + 1, 0}, 1, three, 3, SEED, out) == 0);
+    WANT(made_of((kc_state){0, 0, 0}, 1, none, 0, SEED, out) == 0 && made_of((kc_state){UINT64_C(1) << 32, KC_MAX_THETA, 0}, 1, none, 0, SEED, out) == 0);
+    WANT(made_of(exact, 2, three, 3, SEED, out) == 0 && made_of((kc_state){3, KC_MAX_THETA, 2}, 1, three, 3, SEED, out) == 0);
+    WANT(made_of((kc_state){0, KC_MAX_THETA, 2}, 1, none, 0, SEED, out) == 0 && made_of((kc_state){3, KC_MAX_THETA, 1}, 1, three, 3, SEED, out) == 0);
+    WANT(made_of(empty, 0, none, 0, SEED, out) == 0 && made_of((kc_state){0, 10, 1}, 1, none, 0, SEED, out) == 0);
+    /* .. or a seed whose hash is 0 */
+    WANT(made_of(exact, 1, three, 3, 50541, out) == 0 && made_of(empty, 1, none, 0, 50541, out) == 0);
+    WANT(kc_compact_of_hashes(&d, &exact, 1, three, 3, SEED) == KC_OK && kc_compact_of_hashes(&d, &exact, 1, three, 3, SEED) == KC_INVALID_ARGUMENT);
+    WANT(kc_compact_of_hashes(&c, NULL, 1, three, 3, SEED) == KC_INVALID_ARGUMENT && kc_compact_of_hashes(&c, &exact, 1, NULL, 3, SEED) == KC_INVALID_ARGUMENT);
+    WANT(kc_compact_of_hashes(NULL, &exact, 1, three, 3, SEED) == KC_INVALID_ARGUMENT && c.object == NULL && state_of(&d).retained == 3);
+    kc_theta_free(&s), kc_compact_free(&d);
+}
+
+/* Whether the preamble for tuples of a sketch is the front of an image, which is freed with the sketch. */
+static int begins(kc_compact *sketch, const unsigned char *front, size_t count) {
+    unsigned char it[24];
+    uint64_t length = 9;
+    memset(it, 77, sizeof it);
+    WANT(kc_compact_tuple_preamble(sketch, NULL, 0, &length) == KC_TOO_SMALL && length == count);
+    WANT(kc_compact_tuple_preamble(sketch, it, count - 1, &length) == KC_TOO_SMALL && length == count && it[0] == 77);
+    WANT(kc_compact_tuple_preamble(sketch, it, sizeof it, &length) == KC_OK && length == count && (count == 24 || it[count] == 77));
+    return kc_compact_free(sketch) == KC_OK && memcmp(it, front, count) == 0;
+}
+
+/* The preambles of images of tuple sketches, written and read. */
+static void tuple_heads(void) {
+    kc_theta s = {0};
+    kc_sums t = {0};
+    kc_compact c = {0};
+    kc_state state = {7, 7, 7}, wanted;
+    kc_finding it = {7, 7, 7};
+    uint64_t length = 9, start = 9;
+    uint32_t ordered = 9;
+    WANT(kc_theta_new(&s, 12, SEED) == KC_OK && kc_sums_new(&t, 12, SEED) == KC_OK);
+    for (uint64_t n = 0; n <= 100000; n++) {
+        if (n == 0 || n == 1 || n == 3 || n == 100000) {
+            /* of 8, 8, 16 and 24 bytes, ordered, and but for the first and second not */
+            size_t count = n < 2 ? 8 : n == 3 ? 16 : 24;
+            WANT(kc_sums_image(&t, a_image, sizeof a_image, &a_length) == KC_OK && kc_theta_compact(&s, &c) == KC_OK && begins(&c, a_image, count));
+            WANT(kc_tuple_head(a_image, a_length, SEED, &state, &ordered, &start, &it) == KC_OK && ordered == 1 && start == count && finds(it, 7, 7, 7));
+            WANT(kc_theta_state(&s, &wanted) == KC_OK && memcmp(&state, &wanted, sizeof state) == 0);
+            if (n > 1) {
+                a_image[5] = 0x0a;
+                WANT(kc_theta_compact_with(&s, 0, &c) == KC_OK && begins(&c, a_image, count));
+                WANT(kc_tuple_head(a_image, count + 8 * state.retained, SEED, &state, &ordered, &start, &it) == KC_OK && ordered == 0 && start == count);
+                WANT(memcmp(&state, &wanted, sizeof state) == 0 && finds(it, 7, 7, 7));
+                WANT(kc_tuple_head(a_image, count + 8 * state.retained - 1, SEED, &state, &ordered, &start, &it) == KC_INVALID_DATA);
+                WANT(finds(it, KC_FLAW_CUT, 0, count + 8 * state.retained) && memcmp(&state, &wanted, sizeof state) == 0 && start == count);
+                it = (kc_finding){7, 7, 7};
+            }
+        }
+        WANT(kc_theta_update_u64(&s, n) == KC_OK && kc_sums_add_u64(&t, n, 1) == KC_OK);
+    }
+    WANT(kc_compact_tuple_preamble(&c, out, 24, &length) == KC_INVALID_ARGUMENT && kc_compact_tuple_preamble(NULL, out, 24, &length) == KC_INVALID_ARGUMENT && length == 9);
+    WANT(kc_theta_compact(&s, &c) == KC_OK && kc_compact_tuple_preamble(&c, NULL, 24, &length) == KC_INVALID_ARGUMENT && kc_compact_tuple_preamble(&c, out, 24, NULL) == KC_INVALID_ARGUMENT);
+    /* each flaw, of which nothing else is written */
+    WANT(kc_sums_reset(&t) == KC_OK);
+    for (uint64_t n = 1; n <= 3; n++) WANT(kc_sums_add_u64(&t, n, n) == KC_OK);
+    for (size_t n = 0; n < sizeof findings / sizeof *findings; n++) {
+        size_t count = findings[n].count;
+        uint32_t flaw = findings[n].sums_flaw;
+        int is_read = flaw == KC_FLAW_DAMAGED || flaw == KC_FLAW_LONGER || flaw == KC_FLAW_BIG_ENDIAN || count == 39;
+        memset(a_image, 0, 72), it = (kc_finding){7, 7, 7}, state = (kc_state){7, 7, 7}, ordered = 9, start = 9;
+        WANT(kc_sums_image(&t, a_image, 71, &a_length) == KC_OK && a_length == 64);
+        if (findings[n].place >= 0) a_image[findings[n].place] = (unsigned char)findings[n].byte;
+        kc_status status = kc_tuple_head(a_image, count == 0 ? 64 : count == 1 ? 65 : count, SEED, &state, &ordered, &start, &it);
+        if (count == 39) {
+            WANT(status == KC_INVALID_DATA && finds(it, KC_FLAW_CUT, 0, 40));
+            it = (kc_finding){7, 7, 7}, status = kc_tuple_head(a_image, 40, SEED, &state, &ordered, &start, &it);
+        }
+        WANT(is_read ? status == KC_OK && state.retained == 3 && state.theta == KC_MAX_THETA && state.empty == 0 && ordered == 1 && start == 16 && finds(it, 7, 7, 7)
+                     : status == KC_INVALID_DATA && finds(it, flaw, findings[n].sums_found, findings[n].sums_length == 64 ? 40 : findings[n].sums_length));
+        WANT(is_read || (state.retained == 7 && state.theta == 7 && state.empty == 7 && ordered == 9 && start == 9));
+    }
+    WANT(kc_tuple_head("0103090100Cc93ff", 16, SEED, &state, &ordered, &start, &it) == KC_INVALID_DATA && it.flaw == KC_FLAW_HEXADECIMAL && it.found == 0);
+    WANT(kc_sums_image(&t, a_image, 71, &a_length) == KC_OK && kc_tuple_head(a_image, 64, 50541, &state, &ordered, &start, &it) == KC_INVALID_DATA && finds(it, KC_FLAW_SEED, 0, 40));
+    WANT(kc_tuple_head(NULL, 0, SEED, &state, &ordered, &start, &it) == KC_INVALID_DATA && finds(it, KC_FLAW_SHORT, 0, 0));
+    it = (kc_finding){7, 7, 7};
+    WANT(kc_tuple_head(NULL, 8, SEED, &state, &ordered, &start, &it) == KC_INVALID_ARGUMENT && kc_tuple_head(a_image, 64, SEED, NULL, &ordered, &start, &it) == KC_INVALID_ARGUMENT);
+    WANT(kc_tuple_head(a_image, 64, SEED, &state, NULL, &start, &it) == KC_INVALID_ARGUMENT && kc_tuple_head(a_image, 64, SEED, &state, &ordered, NULL, &it) == KC_INVALID_ARGUMENT);
+    WANT(kc_tuple_head(a_image, 64, SEED, &state, &ordered, &start, NULL) == KC_INVALID_ARGUMENT && finds(it, 7, 7, 7));
+    kc_theta_free(&s), kc_sums_free(&t), kc_compact_free(&c);
+}
+
+/* Images that are read whole, and what is found in others. */
+static void whole_images(void) {
+    unsigned char image[48], sums_image[72];
+    uint64_t length, sums_length;
+    kc_theta s = {0};
+    kc_sums t = {0};
+    kc_compact c = {0};
+    kc_compact_sums d = {0};
+    kc_finding it = {7, 7, 7};
+    WANT(kc_theta_new(&s, 12, SEED) == KC_OK && kc_sums_new(&t, 12, SEED) == KC_OK);
+    for (uint64_t n = 1; n <= 3; n++) WANT(kc_theta_update_u64(&s, n) == KC_OK && kc_sums_add_u64(&t, n, n) == KC_OK);
+    for (size_t n = 0; n < sizeof findings / sizeof *findings; n++) {
+        size_t count = findings[n].count;
+        memset(image, 0, sizeof image), memset(sums_image, 0, sizeof sums_image);
+        WANT(kc_theta_image(&s, image, 47, &length) == KC_OK && kc_sums_image(&t, sums_image, 71, &sums_length) == KC_OK);
+        if (findings[n].place >= 0) image[findings[n].place] = sums_image[findings[n].place] = (unsigned char)findings[n].byte;
+        /* an image is read in spite of the flag of the highest byte first, and if nothing is wrong */
+        int is_read = findings[n].flaw == KC_FLAW_DAMAGED || findings[n].flaw == KC_FLAW_BIG_ENDIAN;
+        it = (kc_finding){7, 7, 7};
+        /* without flags, version 2 is that of hashes that ascend */
+        kc_status status = kc_compact_read_whole(&c, image, count == 0 ? 40 : count == 1 ? 41 : count, SEED, &it);
+        WANT(is_read ? status == KC_OK && finds(it, 7, 7, 7) && state_of(&c).retained == 3 && kc_compact_free(&c) == KC_OK
+                     : status == KC_INVALID_DATA && c.object == NULL && finds(it, findings[n].flaw, findings[n].found, findings[n].length));
+        is_read = findings[n].sums_flaw == KC_FLAW_DAMAGED || findings[n].sums_flaw == KC_FLAW_BIG_ENDIAN;
+        it = (kc_finding){7, 7, 7};
+        status = kc_compact_sums_read_whole(&d, sums_image, count == 0 ? 64 : count == 1 ? 65 : count == 39 ? 63 : count, SEED, &it);
+        WANT(is_read ? status == KC_OK && finds(it, 7, 7, 7) && kc_compact_sums_free(&d) == KC_OK
+                     : status == KC_INVALID_DATA && d.object == NULL && finds(it, findings[n].sums_flaw, findings[n].sums_found, findings[n].sums_length));
+    }
+    /* damaged hashes, a seed whose hash is 0, a handle that has a sketch, null pointers */
+    WANT(kc_theta_image(&s, image, 47, &length) == KC_OK && kc_sums_image(&t, sums_image, 71, &sums_length) == KC_OK);
+    WANT(kc_compact_read_whole(&c, image, 40, 50541, &it) == KC_INVALID_DATA && finds(it, KC_FLAW_SEED, 0, 40));
+    WANT(kc_compact_sums_read_whole(&d, sums_image, 64, 50541, &it) == KC_INVALID_DATA && finds(it, KC_FLAW_SEED, 0, 64));
+    memset(image + 16, 0, 8), memset(sums_image + 16, 0, 8);
+    WANT(kc_compact_read_whole(&c, image, 40, SEED, &it) == KC_INVALID_DATA && finds(it, KC_FLAW_DAMAGED, 0, 40));
+    WANT(kc_compact_sums_read_whole(&d, sums_image, 64, SEED, &it) == KC_INVALID_DATA && finds(it, KC_FLAW_DAMAGED, 0, 64));
+    it = (kc_finding){7, 7, 7};
+    WANT(kc_theta_compact(&s, &c) == KC_OK && kc_compact_read_whole(&c, image, 40, SEED, &it) == KC_INVALID_ARGUMENT && state_of(&c).retained == 3);
+    WANT(kc_sums_compact(&t, &d) == KC_OK && kc_compact_sums_read_whole(&d, sums_image, 64, SEED, &it) == KC_INVALID_ARGUMENT && d.object != NULL);
+    WANT(kc_compact_free(&c) == KC_OK && kc_compact_sums_free(&d) == KC_OK && kc_compact_read_whole(NULL, image, 40, SEED, &it) == KC_INVALID_ARGUMENT);
+    WANT(kc_compact_read_whole(&c, NULL, 40, SEED, &it) == KC_INVALID_ARGUMENT && kc_compact_read_whole(&c, image, 40, SEED, NULL) == KC_INVALID_ARGUMENT);
+    WANT(kc_compact_sums_read_whole(NULL, image, 40, SEED, &it) == KC_INVALID_ARGUMENT && kc_compact_sums_read_whole(&d, NULL, 40, SEED, &it) == KC_INVALID_ARGUMENT);
+    WANT(kc_compact_sums_read_whole(&d, image, 40, SEED, NULL) == KC_INVALID_ARGUMENT && finds(it, 7, 7, 7) && c.object == NULL && d.object == NULL);
+    kc_theta_free(&s), kc_sums_free(&t);
+}
+
 /* The texts of statuses, and the version. */
 static void library(void) {
     for (kc_status status = KC_OK; status <= KC_TOO_SMALL; status++) {
@@ -981,6 +1152,9 @@ int main(void) {
     numbers_as_text();
     rounded();
     flaws();
+    of_hashes();
+    tuple_heads();
+    whole_images();
     library();
     printf("test: %d checks, %d faults\n", checks, faults);
     return faults != 0;

@@ -5,6 +5,7 @@ ghost use Rattle.c_handles.specs.Calls.{OnObject, OnObjectWith, Fills, FillsFrom
 ghost use Rattle.c_handles.specs.Calls.{WritesSome, FillsInOrder, FillsFromTwoInOrder};
 ghost use Rattle.c_objects.specs.Bounds.{is_state, wide};
 ghost use Rattle.c_objects.specs.Buffer.{WritesOf};
+ghost use Rattle.c_objects.specs.Flaws.{FindsIf};
 ghost use Rattle.c_objects.specs.Settings.{order_number, valid_order};
 ghost use Rattle.c_objects.specs.Status.{IsMemoryRefusal};
 
@@ -12,13 +13,14 @@ use crate::owned::Owned;
 use crate::reader::Reader;
 use c_objects::bounds::Wide;
 use c_objects::buffer::put_made;
+use c_objects::flaws::Finding;
 use c_objects::objects::{
     Accepts, AcceptsImages, CanCopy, CanReset, CanTrim, FromImage, HasCompact, HasDifference,
     HasForm, HasImage, HasSize, HasState, HasTotal,
 };
 use c_objects::settings::order_of;
 use c_objects::state::State;
-use c_objects::status::{INVALID_ARGUMENT, OK};
+use c_objects::status::{INVALID_ARGUMENT, INVALID_DATA, OK};
 use std::alloc::Global;
 
 impl<T: HasState> Reader<T> {
@@ -200,6 +202,20 @@ impl<T: FromImage> Owned<T> {
         ensures { Fills (T.is_read image.now seed) (T.is_unread image.now seed) self.old.value result self.new.value }
     {
         self.put_or(alloc, T::read(alloc, image, seed))
+    }
+
+    /// Puts the sketch that bytes are, all of them, into the pointer, read under a seed. With status `INVALID_DATA` it
+    /// writes why they aren't one.
+    pub fn read_whole(&mut self, alloc: Global, image: &[u8], seed: u64, found: &mut Finding) -> u32
+        ensures read { Fills (T.is_whole image.now seed) (T.not_whole image.now seed) self.old.value result
+            self.new.value }
+        ensures found { FindsIf (T.is_finding image.now seed) found.old result found.new }
+    {
+        let status = self.put_or(alloc, T::read_whole(alloc, image, seed));
+        if status == INVALID_DATA {
+            *found = T::finding(image, seed);
+        }
+        status
     }
 }
 

@@ -2,8 +2,10 @@
 ghost use Rattle.std.specs.Prelude.{◌≡◌, true, None, option_map, length};
 ghost use Rattle.c_objects.specs.Bounds.{is_state, wide};
 ghost use Rattle.c_objects.specs.Buffer.{WritesOf};
+ghost use Rattle.c_objects.specs.Flaws.{FindsIf, IsSumsFinding};
 ghost use Rattle.c_handles.specs.Calls.{Fills, FillsFrom, WritesValue, WritesSome};
 ghost use Rattle.c_objects.specs.CompactSums.{IsSumsReadFrom, IsSumsReadRefusal, compact_sums_state};
+ghost use Rattle.c_objects.specs.CompactSums.{IsWholeSums, IsWholeSumsRefusal};
 ghost use Rattle.c_objects.specs.CompactSums.{IsCompactSumsImage, IsCopyOfSums, compact_total, CopiesEntries};
 ghost use Rattle.c_objects.specs.Settings.{order_number};
 ghost use Rattle.c_objects.specs.Status.{IsMemoryRefusal};
@@ -12,6 +14,7 @@ use c_handles::handles::CompactSumsHandle;
 use c_handles::readers::CompactSumsReader;
 use c_objects::bounds::Wide;
 use c_objects::compact_sums::put_entries_of;
+use c_objects::flaws::Finding;
 use c_objects::state::State;
 use c_objects::status::INVALID_ARGUMENT;
 use std::alloc::Global;
@@ -28,6 +31,22 @@ pub extern "C" fn kcp_compact_sums_read(
         sums.new.value }
 {
     sums.owned().read(alloc, image, seed)
+}
+
+/// Reads the sketch that the bytes are, all of them, under this seed, as `kcp_compact_read_whole` does.
+#[unsafe(no_mangle)]
+pub extern "C" fn kcp_compact_sums_read_whole(
+    alloc: Global,
+    sums: &mut CompactSumsHandle,
+    image: &[u8],
+    seed: u64,
+    found: &mut Finding,
+) -> u32
+    ensures read { Fills (IsWholeSums image.now seed) (IsWholeSumsRefusal image.now seed) sums.old.value result
+        sums.new.value }
+    ensures found { FindsIf (IsSumsFinding image.now seed) found.old result found.new }
+{
+    sums.owned().read_whole(alloc, image, seed, found)
 }
 
 /// Frees the sketch of a handle, if it has one.

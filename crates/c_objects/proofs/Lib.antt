@@ -2,6 +2,7 @@ mod Begun
 mod Digits
 mod Gathered
 mod Inputs
+mod Keys
 mod Lowering
 mod Merges
 mod Orders

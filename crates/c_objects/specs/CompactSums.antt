@@ -9,6 +9,7 @@ use Rattle.core_laws.specs.Shown.{Shown}
 use Rattle.core_slots.specs.Entry.{tuple_key}
 use Rattle.core_slots.specs.declared.entry.TupleEntry.{TupleEntry}
 use Rattle.core_state.specs.Updatable.{sketch_shows}
+use Rattle.keys_sketches.specs.Header.{sums_length}
 use Rattle.totals.specs.Totals.{sum_of}
 use Rattle.tuple_sketches.specs.Image.{Reads, IsReadable, written}
 use Rattle.c_objects.specs.Status.{IsUnreadStatus}
@@ -26,6 +27,14 @@ IsSumsReadFrom bytes seed s = Reads (SpellsNumber 8) bytes (seed_hash seed) s.sk
 -- the refusal of reading: memory, with 3; or bytes that are read as no sketch, with 2
 abbrev pub IsSumsReadRefusal : (bytes : List ℕ) → (seed : ℕ) → (status : ℕ) → Type 0
 IsSumsReadRefusal bytes seed status = IsUnreadStatus (IsReadable (SpellsNumber 8) bytes (seed_hash seed)) status
+
+-- the sketch that bytes are, all of them, read under a seed
+abbrev pub IsWholeSums : (bytes : List ℕ) → (seed : ℕ) → CompactSums → Type 0
+IsWholeSums bytes seed s = IsSumsReadFrom bytes seed s × (sums_length bytes ≡ Some (length bytes))
+
+-- the refusal: memory, with 3; or the bytes are no sketch, or not one alone, with 2
+abbrev pub IsWholeSumsRefusal : (bytes : List ℕ) → (seed : ℕ) → (status : ℕ) → Type 0
+IsWholeSumsRefusal bytes seed status = IsUnreadStatus ((s : CompactSums) × IsWholeSums bytes seed s) status
 
 -- the state of a sketch
 abbrev pub compact_sums_state : CompactSums → State

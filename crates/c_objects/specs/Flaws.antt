@@ -58,6 +58,18 @@ WritesFlaw flaw_in length_in bytes seed before status after =
     (seed_hash seed ≢ 0 → (status ≡ 0) × IsFinding (flaw_in (seed_hash seed) bytes) (length_in bytes) after)
     × (seed_hash seed ≡ 0 → (status ≡ 1) × (after ≡ before))
 
+-- why bytes are not the image of one theta sketch of this seed, by their preamble
+abbrev pub IsThetaFinding : (bytes : List ℕ) → (seed : ℕ) → Finding → Type 0
+IsThetaFinding bytes seed found = IsFinding (flaw_of (seed_hash seed) bytes) (image_length bytes) found
+
+-- why bytes are not the image of one sketch of sums
+abbrev pub IsSumsFinding : (bytes : List ℕ) → (seed : ℕ) → Finding → Type 0
+IsSumsFinding bytes seed found = IsFinding (sums_flaw_of (seed_hash seed) bytes) (sums_length bytes) found
+
+-- with status 2 what is at fault was written, and with another nothing
+abbrev pub FindsIf : (IsFound : Finding → Type 0) → (before : Finding) → (status : ℕ) → (after : Finding) → Type 0
+FindsIf IsFound before status after = (status ≡ 2 → IsFound after) × (status ≢ 2 → after ≡ before)
+
 -- what the preamble of an image of a theta sketch says
 abbrev pub WritesThetaFlaw : (bytes : List ℕ) → (seed : ℕ) → (before : Finding) → (status : ℕ) → (after : Finding) → Type 0
 WritesThetaFlaw = WritesFlaw flaw_of image_length

@@ -19,5 +19,6 @@ pub mod SumsUnion
 pub mod Texts
 pub mod Thetas
 pub mod Totals
+pub mod Tuples
 pub mod Union
 pub mod Values

@@ -12,6 +12,7 @@ use Rattle.core_laws.specs.Values.{Sketch, theta_of, count_of}
 use Rattle.core_state.specs.Updatable.{sketch_value, sketch_shows, StopsUpdates}
 use Rattle.core_table.specs.HashTable.{empty_table, after_hash, after_hashes, after_reset, hash_allocates}
 use Rattle.core_table.specs.HashTable.{trimmed_table}
+use Rattle.keys_sketches.specs.Header.{image_length}
 use Rattle.theta_sketches.specs.Image.{Reads, IsReadable, written}
 use Rattle.theta_sketches.specs.Streams.{IsSketchOf, GivesMore, GivesNothing}
 use Rattle.c_objects.specs.Buffer.{IsPut}
@@ -144,6 +145,14 @@ IsReadFrom bytes seed s = Reads bytes (seed_hash seed) s.sketch
 -- the refusal of reading: memory, with 3; or bytes that are read as no sketch, with 2
 abbrev pub IsReadRefusal : (bytes : List ℕ) → (seed : ℕ) → (status : ℕ) → Type 0
 IsReadRefusal bytes seed status = IsUnreadStatus (IsReadable bytes (seed_hash seed)) status
+
+-- the sketch that bytes are, all of them, read under a seed
+abbrev pub IsWhole : (bytes : List ℕ) → (seed : ℕ) → CompactSketch → Type 0
+IsWhole bytes seed s = IsReadFrom bytes seed s × (image_length bytes ≡ Some (length bytes))
+
+-- the refusal: memory, with 3; or the bytes are no sketch, or not one alone, with 2
+abbrev pub IsWholeRefusal : (bytes : List ℕ) → (seed : ℕ) → (status : ℕ) → Type 0
+IsWholeRefusal bytes seed status = IsUnreadStatus ((s : CompactSketch) × IsWhole bytes seed s) status
 
 -- the state of the sketch that bytes begin with was written, with status 0; or reading was refused, and nothing is written
 abbrev pub ReadsImageState : (bytes : List ℕ) → (seed : ℕ) → (before : State) → (status : ℕ) → (after : State) → Type 0

@@ -1,15 +1,19 @@
 //! Compact theta sketches, which are immutable.
 ghost use Rattle.c_objects.specs.Buffer.{IsPut};
+ghost use Rattle.c_objects.specs.Flaws.{IsThetaFinding};
 ghost use Rattle.c_objects.specs.Intersection.{AreOfSeed, IsDifferenceRefusal};
 ghost use Rattle.c_objects.specs.Orders.{IsDifferenceIn};
 ghost use Rattle.c_objects.specs.Status.{IsMemoryRefusal};
 ghost use Rattle.c_objects.specs.Thetas.{compact_state, IsCompactImage, IsCopy, IsReadFrom, IsReadRefusal};
+ghost use Rattle.c_objects.specs.Thetas.{IsWhole, IsWholeRefusal};
 ghost use Rattle.c_objects.specs.declared.compact.CompactSketch.{CompactSketch};
 
 use crate::entries::put_hashes;
+use crate::flaws::{Finding, theta_finding};
 use crate::objects::{CanCopy, FromImage, HasDifference, HasForm, HasImage, HasSize, HasState};
 use crate::state::State;
-use crate::status::{OUT_OF_MEMORY, status_of};
+use crate::status::{INVALID_DATA, OUT_OF_MEMORY, status_of};
+use sketch_base::Error;
 use std::alloc::Global;
 use theta_sketches::{CompactThetaSketch, ThetaANotB};
 
@@ -29,6 +33,29 @@ impl FromImage for CompactSketch {
             Ok(sketch) => Ok(CompactSketch { sketch }),
             Err(error) => Err(status_of(error.kind())),
         }
+    }
+
+    ghost is_whole = { IsWhole };
+
+    ghost not_whole = { IsWholeRefusal };
+
+    ghost is_finding = { IsThetaFinding };
+
+    fn read_whole(alloc: Global, image: &[u8], seed: u64) -> Result<CompactSketch, u32> {
+        match CompactThetaSketch::read_with_seed(alloc, image, seed) {
+            Ok((sketch, length)) => {
+                if length == image.len() as u64 {
+                    Ok(CompactSketch { sketch })
+                } else {
+                    Err(INVALID_DATA)
+                }
+            }
+            Err(reason) => Err(status_of(Error::from(reason).kind())),
+        }
+    }
+
+    fn finding(image: &[u8], seed: u64) -> Finding {
+        theta_finding(image, seed)
     }
 }
 

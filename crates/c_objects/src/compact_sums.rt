@@ -1,18 +1,22 @@
 //! Compact tuple sketches whose summaries are sums of 64 bits.
+ghost use Rattle.c_objects.specs.Flaws.{IsSumsFinding};
 ghost use Rattle.c_objects.specs.Status.{IsMemoryRefusal};
 ghost use Rattle.c_objects.specs.Orders.{IsDifferenceOfSumsIn};
 ghost use Rattle.c_objects.specs.SumsIntersection.{AreSumsOfSeed, IsSumsDifferenceRefusal};
 ghost use Rattle.c_objects.specs.CompactSums.{IsCompactSumsImage, IsSumsReadFrom, IsSumsReadRefusal};
+ghost use Rattle.c_objects.specs.CompactSums.{IsWholeSums, IsWholeSumsRefusal};
 ghost use Rattle.c_objects.specs.CompactSums.{compact_sums_state, compact_total, IsCopyOfSums, PutsEntries};
 ghost use Rattle.c_objects.specs.declared.compact_sums.CompactSums.{CompactSums};
 
 use crate::bounds::{Wide, split};
 use crate::entries::put_entries;
+use crate::flaws::{Finding, sums_finding};
 use crate::objects::{
     CanCopy, FromImage, HasDifference, HasForm, HasImage, HasSize, HasState, HasTotal,
 };
 use crate::state::State;
-use crate::status::{OUT_OF_MEMORY, status_of};
+use crate::status::{INVALID_DATA, OUT_OF_MEMORY, status_of};
+use sketch_base::Error;
 use std::alloc::Global;
 use totals::sum_of;
 use tuple_sketches::laws::read_again;
@@ -34,6 +38,29 @@ impl FromImage for CompactSums {
             Ok(sketch) => Ok(CompactSums { sketch }),
             Err(error) => Err(status_of(error.kind())),
         }
+    }
+
+    ghost is_whole = { IsWholeSums };
+
+    ghost not_whole = { IsWholeSumsRefusal };
+
+    ghost is_finding = { IsSumsFinding };
+
+    fn read_whole(alloc: Global, image: &[u8], seed: u64) -> Result<CompactSums, u32> {
+        match CompactTupleSketch::<u64>::read_with_seed(alloc, image, seed, 8) {
+            Ok((sketch, length)) => {
+                if length == image.len() as u64 {
+                    Ok(CompactSums { sketch })
+                } else {
+                    Err(INVALID_DATA)
+                }
+            }
+            Err(reason) => Err(status_of(Error::from(reason).kind())),
+        }
+    }
+
+    fn finding(image: &[u8], seed: u64) -> Finding {
+        sums_finding(image, seed)
     }
 }
 

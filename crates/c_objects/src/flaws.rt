@@ -1,9 +1,11 @@
 //! Why bytes are not read as an image, for C. The header of C has these numbers and comments
 //! (`bindings/c/make_calls.py`).
 ghost use Rattle.std.specs.Prelude.{◌≡◌};
-ghost use Rattle.c_objects.specs.Flaws.{reason_of, found_byte, IsFinding, WritesThetaFlaw, WritesSumsFlaw};
+ghost use Rattle.c_objects.specs.Flaws.{reason_of, found_byte, IsFinding, IsThetaFinding};
+ghost use Rattle.c_objects.specs.Flaws.{IsSumsFinding, WritesThetaFlaw, WritesSumsFlaw};
 
 use crate::status::{INVALID_ARGUMENT, OK};
+use core_images::reader_seed_hash;
 use keys_sketches::{Flaw, ImageFlaw, flaw_of, image_length, sums_flaw_of, sums_length};
 use sketch_base::{ErrorKind, compute_seed_hash};
 
@@ -82,7 +84,7 @@ fn found_byte(flaw: Flaw) -> u32
     }
 }
 
-fn finding_of(flaw: Flaw, length: Option<u64>) -> Finding
+pub(crate) fn finding_of(flaw: Flaw, length: Option<u64>) -> Finding
     ensures { IsFinding flaw length result }
 {
     Finding {
@@ -90,6 +92,23 @@ fn finding_of(flaw: Flaw, length: Option<u64>) -> Finding
         found: found_byte(flaw),
         length: length.unwrap_or(0),
     }
+}
+
+/// Why bytes are not the image of one theta sketch of this seed, by their preamble.
+pub(crate) fn theta_finding(image: &[u8], seed: u64) -> Finding
+    ensures { IsThetaFinding image.now seed result }
+{
+    finding_of(flaw_of(image, reader_seed_hash(seed)), image_length(image))
+}
+
+/// The same of an image of sums.
+pub(crate) fn sums_finding(image: &[u8], seed: u64) -> Finding
+    ensures { IsSumsFinding image.now seed result }
+{
+    finding_of(
+        sums_flaw_of(image, reader_seed_hash(seed)),
+        sums_length(image),
+    )
 }
 
 /// Writes what the preamble of an image of a theta sketch says, for a reader of this seed. The status is `OK`, or

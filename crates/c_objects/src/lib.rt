@@ -26,5 +26,6 @@ pub mod sums_intersection;
 pub mod sums_union;
 pub mod texts;
 pub mod theta;
+pub mod tuples;
 pub mod union;
 pub mod values;

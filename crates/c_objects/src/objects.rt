@@ -4,6 +4,7 @@ ghost use Rattle.std.specs.Prelude.{◌≡◌, true, IfOk, OnOk, IfErr};
 ghost use Rattle.c_objects.specs.Bounds.{is_state, wide};
 
 use crate::bounds::Wide;
+use crate::flaws::Finding;
 use crate::state::State;
 use std::alloc::Global;
 
@@ -172,6 +173,28 @@ pub trait FromImage: Drop {
         ensures read { IfOk result (is_read image.now seed) }
         ensures refused { IfErr result (is_unread image.now seed) }
         ensures room { OnOk result (is_unread image.now seed 3) };
+
+    ghost use Rattle.c_objects.specs.declared.flaws.Finding.{Finding};
+
+    /// Whether it is what bytes are, all of them, whether a status is that of a refusal, and what is found in other
+    /// bytes.
+    ghost is_whole: { List ℕ → ℕ → Self → Type 0 };
+
+    ghost not_whole: { List ℕ → ℕ → ℕ → Type 0 };
+
+    ghost is_finding: { List ℕ → ℕ → Finding → Type 0 };
+
+    /// The sketch that bytes are, all of them, read under a seed, or the status of the refusal: 2 if the bytes are read
+    /// as no sketch or others follow it, 3 if memory was refused. Memory to keep the sketch may still be refused
+    /// (clause `room`).
+    fn read_whole(alloc: Global, image: &[u8], seed: u64) -> Result<Self, u32>
+        ensures read { IfOk result (is_whole image.now seed) }
+        ensures refused { IfErr result (not_whole image.now seed) }
+        ensures room { OnOk result (not_whole image.now seed 3) };
+
+    /// Why bytes are not one image alone, by their preamble.
+    fn finding(image: &[u8], seed: u64) -> Finding
+        ensures { is_finding image.now seed result };
 }
 
 /// A compact sketch, which has a seed hash and may be ordered.
