@@ -35,9 +35,15 @@ enum class Mode : std::uint32_t { sum = KC_SUM, min = KC_MIN, max = KC_MAX };
 class Error : public std::runtime_error {
 public:
     explicit Error(kc_status status) : std::runtime_error(kc_status_text(status)), status_(status) {}
+    /* Bytes were refused for what was found in them. */
+    explicit Error(const kc_finding &found) : std::runtime_error(text_of(found)), status_(KC_INVALID_DATA) {}
     kc_status status() const noexcept { return status_; }
 
 private:
+    static std::string text_of(const kc_finding &found) {
+        std::string text = std::string(kc_status_text(KC_INVALID_DATA)) + ": " + kc_flaw_text(found.flaw);
+        return found.found == 0 ? text : text + " (found: " + std::to_string(found.found) + ")";
+    }
     kc_status status_;
 };
 
@@ -45,6 +51,10 @@ private:
 inline void check(kc_status status) {
     if (status == KC_OUT_OF_MEMORY) throw std::bad_alloc();
     if (status != KC_OK) throw Error(status);
+}
+inline void check(kc_status status, const kc_finding &found) {
+    if (status == KC_INVALID_DATA) throw Error(found);
+    check(status);
 }
 
 /* Elements that lie one after another and belong to another object. */
@@ -123,7 +133,7 @@ template <class Buffer, class Call> Buffer written(Call call) {
 
 /* Refuses an image with bytes behind it. Other faults are for the call that reads it. */
 inline void check_end(kc_status status, const kc_finding &found, Bytes image) {
-    if (status == KC_OK && found.length != 0 && found.length < image.size()) throw Error(KC_INVALID_DATA);
+    if (status == KC_OK && found.length != 0 && found.length < image.size()) throw Error(found);
 }
 inline void check_image(Bytes image, std::uint64_t seed) {
     kc_finding found{};
@@ -222,8 +232,8 @@ public:
     /* The sketch of an image. */
     static Compact read(Bytes image, std::uint64_t seed = default_seed) {
         Compact out;
-        detail::check_image(image, seed);
-        check(kc_compact_read(out.get(), image.data(), image.size(), seed));
+        kc_finding found{};
+        check(kc_compact_read_whole(out.get(), image.data(), image.size(), seed, &found), found);
         return out;
     }
     Compact clone() const {
@@ -371,8 +381,8 @@ class CompactSums : public detail::Handle<kc_compact_sums, kc_compact_sums_free>
 public:
     static CompactSums read(Bytes image, std::uint64_t seed = default_seed) {
         CompactSums out;
-        detail::check_sums_image(image, seed);
-        check(kc_compact_sums_read(out.get(), image.data(), image.size(), seed));
+        kc_finding found{};
+        check(kc_compact_sums_read_whole(out.get(), image.data(), image.size(), seed, &found), found);
         return out;
     }
     State state() const {

@@ -170,26 +170,17 @@ static const char *flaw_of(const kc_finding *it, int is_of_sums) {
     }
 }
 
-/* The status of bytes that were read with this one, of which the library says this: of a sketch and more, KC_INVALID_DATA. */
-static kc_status alone(kc_status status, const kc_finding *it, size_t count, int is_of_sums, const char **flaw) {
-    if (status == KC_OK && it->length != count) status = KC_INVALID_DATA;
-    if (status == KC_INVALID_DATA) *flaw = flaw_of(it, is_of_sums);
-    return status;
-}
-
 kc_status read_image(const void *image, size_t count, kc_compact *out, const char **flaw) {
-    kc_finding it = {0};
-    kc_status status = kc_image_flaw(image, count, KC_DEFAULT_SEED, &it);
-    if (status == KC_OK) status = alone(kc_compact_read(out, image, count, KC_DEFAULT_SEED), &it, count, 0, flaw);
-    if (status != KC_OK) kc_compact_free(out);
+    kc_finding found;
+    kc_status status = kc_compact_read_whole(out, image, count, KC_DEFAULT_SEED, &found);
+    if (status == KC_INVALID_DATA) *flaw = flaw_of(&found, 0);
     return status;
 }
 
 kc_status read_sums(const void *image, size_t count, kc_compact_sums *out, const char **flaw) {
-    kc_finding it = {0};
-    kc_status status = kc_sums_image_flaw(image, count, KC_DEFAULT_SEED, &it);
-    if (status == KC_OK) status = alone(kc_compact_sums_read(out, image, count, KC_DEFAULT_SEED), &it, count, 1, flaw);
-    if (status != KC_OK) kc_compact_sums_free(out);
+    kc_finding found;
+    kc_status status = kc_compact_sums_read_whole(out, image, count, KC_DEFAULT_SEED, &found);
+    if (status == KC_INVALID_DATA) *flaw = flaw_of(&found, 1);
     return status;
 }
 

@@ -59,6 +59,8 @@ _REASONS: dict[int, tuple[type[SketchError], str]] = {
 
 
 def error_of_status(status: int, reason: str | None) -> SketchError:
-    """The error of a status that isn't 0. A reason is that of an argument, or of a failure."""
+    """The error of a status that isn't 0. A reason is that of an argument, of a failure, or the flaw of an image."""
     kind, text = _REASONS[status]
+    if reason and status == 2:
+        return kind(f"{text}: {reason}")
     return kind(reason if reason and status in (1, 5) else text)

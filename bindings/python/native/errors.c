@@ -1,7 +1,7 @@
 /* Statuses as errors, and the numbers and names of arguments. */
 #include "native.h"
 
-/* Sets the error of a status, with this reason if one is passed and the status is KC_INVALID_ARGUMENT or KC_FAILED. */
+/* Sets the error of a status, with this reason if one is passed and the status is KC_INVALID_ARGUMENT, KC_INVALID_DATA or KC_FAILED. */
 PyObject *refuse(kc_status status, const char *reason) {
     PyObject *error = PyObject_CallFunction(error_of_status, "Iz", (unsigned)status, reason);
     if (error != NULL) {

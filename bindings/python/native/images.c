@@ -54,11 +54,20 @@ kc_status read_entries(kc_compact_sums *sketch, uint64_t **entries, uint64_t *co
     return kc_compact_sums_entries(sketch, *entries, *entries + state.retained, (size_t)state.retained, count);
 }
 
-/* KC_INVALID_DATA for an image with bytes behind it. Other faults are for the call that reads it. */
-kc_status check_end(bool of_sums, const char *image, Py_ssize_t count, unsigned long long seed) {
-    kc_finding found;
-    kc_status status = of_sums ? kc_sums_image_flaw(image, (size_t)count, seed, &found) : kc_image_flaw(image, (size_t)count, seed, &found);
-    return status == KC_OK && found.length != 0 && found.length < (uint64_t)count ? KC_INVALID_DATA : KC_OK;
+/* KC_INVALID_DATA for an image with bytes behind it; what is found in it is written. Other faults are for the call that reads it. */
+kc_status check_end(bool of_sums, const char *image, Py_ssize_t count, unsigned long long seed, kc_finding *found) {
+    found->flaw = KC_FLAW_DAMAGED, found->found = 0;
+    kc_status status = of_sums ? kc_sums_image_flaw(image, (size_t)count, seed, found) : kc_image_flaw(image, (size_t)count, seed, found);
+    return status == KC_OK && found->length != 0 && found->length < (uint64_t)count ? KC_INVALID_DATA : KC_OK;
+}
+
+/* Sets the error of bytes that aren't one image, with what was found in them if the status is KC_INVALID_DATA. */
+PyObject *refuse_bytes(kc_status status, const kc_finding *it) {
+    char reason[200];
+    if (status != KC_INVALID_DATA) return refuse(status, NULL);
+    if (it->found == 0) return refuse(status, kc_flaw_text(it->flaw));
+    PyOS_snprintf(reason, sizeof reason, "%s (found: %u)", kc_flaw_text(it->flaw), (unsigned)it->found);
+    return refuse(status, reason);
 }
 
 typedef struct {
@@ -80,10 +89,15 @@ static kc_status subtract(void *what, void *out, size_t room, uint64_t *length) 
 static PyObject *combined(PyObject *given, Writer writer) {
     Images it;
     if (!PyArg_ParseTuple(given, "y#y#K", &it.first, &it.first_count, &it.second, &it.second_count, &it.seed)) return NULL;
-    kc_status status = check_end(false, it.first, it.first_count, it.seed);
-    if (status == KC_OK) status = check_end(false, it.second, it.second_count, it.seed);
-    if (status != KC_OK) return refuse(status, NULL);
-    return written(writer, &it, (size_t)it.first_count + 24, it.first_count + it.second_count > 8 * MANY);
+    kc_finding found, other;
+    Output output;
+    kc_status status = check_end(false, it.first, it.first_count, it.seed, &found);
+    if (status != KC_OK) return refuse_bytes(status, &found);
+    status = check_end(false, it.second, it.second_count, it.seed, &other);
+    if (status != KC_OK) return refuse_bytes(status, &other);
+    status = write_output(writer, &it, (size_t)it.first_count + 24, it.first_count + it.second_count > 8 * MANY, &output);
+    /* Only the first may be bytes of others. */
+    return status == KC_INVALID_DATA ? refuse_bytes(status, &found) : bytes_of_output(status, &output);
 }
 
 static PyObject *images_intersect(PyObject *module, PyObject *given) { return (void)module, combined(given, intersect); }
@@ -138,11 +152,12 @@ static PyObject *sums_read(PyObject *module, PyObject *given) {
     Py_ssize_t count;
     unsigned long long seed;
     kc_compact_sums sketch = {0};
+    kc_finding found;
+    kc_status status;
     (void)module;
     if (!PyArg_ParseTuple(given, "y#K", &image, &count, &seed)) return NULL;
-    kc_status status = check_end(true, image, count, seed);
-    if (status == KC_OK) status = read_sums(&sketch, image, count, seed);
-    return status == KC_OK ? result_of_sums(&sketch) : refuse(status, NULL);
+    WITHOUT_LOCK(status, kc_compact_sums_read_whole(&sketch, image, (size_t)count, seed, &found));
+    return status == KC_OK ? result_of_sums(&sketch) : refuse_bytes(status, &found);
 }
 
 static PyObject *sums_total(PyObject *module, PyObject *given) {

@@ -232,10 +232,11 @@ static int warn_of_image(Object *o, PyObject *bytes) {
 static int require_end(const Object *o, PyObject *bytes) {
     char *image;
     Py_ssize_t count;
+    kc_finding found;
     if (PyBytes_AsStringAndSize(bytes, &image, &count)) return -1;
-    kc_status status = check_end(o->kind->of_sums, image, count, o->settings.seed);
+    kc_status status = check_end(o->kind->of_sums, image, count, o->settings.seed, &found);
     if (status == KC_OK) return 0;
-    refuse(status, NULL);
+    refuse_bytes(status, &found);
     return -1;
 }
 

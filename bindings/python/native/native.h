@@ -187,7 +187,8 @@ typedef struct {
 } Output;
 kc_status write_output(Writer writer, void *what, size_t room, bool is_long, Output *output);
 PyObject *bytes_of_output(kc_status status, Output *output);
-kc_status check_end(bool of_sums, const char *image, Py_ssize_t count, unsigned long long seed);
+kc_status check_end(bool of_sums, const char *image, Py_ssize_t count, unsigned long long seed, kc_finding *found);
+PyObject *refuse_bytes(kc_status status, const kc_finding *it);
 PyObject *result_of_compact(kc_compact *made);
 PyObject *result_of_sums(kc_compact_sums *made);
 PyObject *state_as_tuple(const kc_state *state);

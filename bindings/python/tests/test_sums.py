@@ -211,8 +211,12 @@ def test_compact_sums_are_values():
     for data in (b"", b"abc", ThetaSketch().to_bytes(), compact.to_bytes()[:-1], compact.to_bytes() + b"more"):
         with pytest.raises(InvalidDataError):
             CompactTupleSums.from_bytes(data)
-    with pytest.raises(InvalidDataError):
+    with pytest.raises(InvalidDataError, match="another seed hash"):
         CompactTupleSums.from_bytes(compact.to_bytes(), seed=1)
+    with pytest.raises(InvalidDataError, match="bytes follow the image$"):
+        CompactTupleSums.from_bytes(compact.to_bytes() + b"m")
+    with pytest.raises(InvalidDataError, match="another family .*found: 3"):
+        CompactTupleSums.from_bytes(ThetaSketch().to_bytes())
     for call in (CompactTupleSums, lambda: CompactTupleSums.from_bytes(5)):
         with pytest.raises(TypeError):
             call()

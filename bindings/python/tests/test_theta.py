@@ -149,8 +149,12 @@ def test_seeds():
     for call in (lambda: first | second, lambda: first & second, lambda: first - second, lambda: ThetaUnion().update(first)):
         with pytest.raises(InvalidArgumentError, match="different seeds"):
             call()
-    with pytest.raises(InvalidDataError):
+    with pytest.raises(InvalidDataError, match="under this seed: the image has another seed hash"):
         CompactThetaSketch.from_bytes(first.to_bytes())
+    with pytest.raises(InvalidDataError, match="bytes follow the image$"):
+        CompactThetaSketch.from_bytes(first.to_bytes() + b"m", seed=1)
+    with pytest.raises(InvalidDataError, match="bytes follow the image$"):
+        ThetaUnion(seed=1).update(first.to_bytes() + b"m")
     assert (first | first.compact()).seed == 1
     assert CompactThetaSketch.from_bytes(first.to_bytes(), seed=1) == first.compact()
 
