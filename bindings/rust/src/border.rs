@@ -8,7 +8,7 @@
 use crate::error::{check, Error};
 use crate::state::MAX_THETA;
 use std::any::TypeId;
-use std::ffi::c_void;
+use std::ffi::{c_char, c_void, CStr};
 use std::marker::PhantomData;
 use std::mem::size_of;
 use std::ptr;
@@ -52,8 +52,26 @@ impl Wide {
     }
 }
 
+/// Why bytes are not an image (`kc_finding`).
+#[repr(C)]
+#[derive(Clone, Copy, Default)]
+struct Finding {
+    flaw: u32,
+    found: u32,
+    length: u64,
+}
+
+/// What the preamble of the image of a tuple sketch says.
+pub(crate) struct TupleHead {
+    pub(crate) state: State,
+    pub(crate) ordered: bool,
+    /// The offset of the first entry.
+    pub(crate) start: usize,
+}
+
 const _: () =
     assert!(size_of::<Raw>() == 8 && size_of::<State>() == 24 && size_of::<Wide>() == 16 && size_of::<usize>() == 8);
+const _: () = assert!(size_of::<Finding>() == 16);
 
 type Free = unsafe extern "C" fn(*mut Raw) -> Status;
 type Change = unsafe extern "C" fn(*mut Raw) -> Status;
@@ -86,9 +104,18 @@ extern "C" {
     fn kc_theta_difference(first: *const Raw, second: *const Raw, seed: u64, out: *mut Raw) -> Status;
     fn kc_theta_estimated_size(sketch: *const Raw, bytes: *mut u64) -> Status;
     fn kc_compact_read(sketch: *mut Raw, image: *const u8, count: usize, seed: u64) -> Status;
+    fn kc_compact_of_hashes(
+        sketch: *mut Raw,
+        state: *const State,
+        ordered: u32,
+        hashes: *const u64,
+        count: usize,
+        seed: u64,
+    ) -> Status;
     fn kc_compact_free(sketch: *mut Raw) -> Status;
     fn kc_compact_state(sketch: *const Raw, out: *mut State) -> Status;
     fn kc_compact_image(sketch: *const Raw, out: *mut u8, room: usize, length: *mut u64) -> Status;
+    fn kc_compact_tuple_preamble(sketch: *const Raw, out: *mut u8, room: usize, length: *mut u64) -> Status;
     fn kc_compact_hashes(sketch: *const Raw, hashes: *mut u64, room: usize, count: *mut u64) -> Status;
     fn kc_compact_seed_hash(sketch: *const Raw, out: *mut u32) -> Status;
     fn kc_compact_is_ordered(sketch: *const Raw, out: *mut u32) -> Status;
@@ -162,6 +189,16 @@ extern "C" {
     fn kc_sums_intersection_estimated_size(intersection: *const Raw, bytes: *mut u64) -> Status;
     fn kc_sums_difference_with(first: *const Raw, second: *const Raw, seed: u64, ordered: u32, out: *mut Raw)
         -> Status;
+    fn kc_tuple_head(
+        image: *const u8,
+        count: usize,
+        seed: u64,
+        state: *mut State,
+        ordered: *mut u32,
+        start: *mut u64,
+        found: *mut Finding,
+    ) -> Status;
+    fn kc_flaw_text(flaw: u32) -> *const c_char;
     fn kc_hash_bytes(seed: u64, bytes: *const u8, count: usize, hash: *mut u64) -> Status;
     fn kc_seed_hash(seed: u64, out: *mut u32) -> Status;
     fn kc_count_bounds(retained: u64, theta: u64, deviations: u32, lower: *mut Wide, upper: *mut Wide) -> Status;
@@ -566,6 +603,45 @@ impl<K: Form> Object<K> {
         union.add_form(&self)?;
         union.result(false)
     }
+}
+
+impl Compact {
+    /// The sketch that has this state and order, and these hashes in their order.
+    pub(crate) fn of_hashes(state: State, ordered: bool, hashes: &[u64], seed: u64) -> Result<Self, Error> {
+        let ordered = u32::from(ordered);
+        // SAFETY: the handle has no object yet; the state is this function's own, and the hashes are those of a slice.
+        Self::made(|at| unsafe { kc_compact_of_hashes(at, &state, ordered, hashes.as_ptr(), hashes.len(), seed) })
+    }
+
+    /// The preamble of the image of a tuple sketch with these keys, and room for so many bytes behind it.
+    pub(crate) fn tuple_preamble(&self, room: usize) -> Result<Vec<u8>, Error> {
+        let mut image = vector::<u8>(24 + room)?;
+        let mut length = 0;
+        // SAFETY: the handle is of this kind and only read; the vector has room for so many bytes.
+        check(unsafe { kc_compact_tuple_preamble(self.reader(), image.as_mut_ptr(), 24, &mut length) })?;
+        // SAFETY: the call has written so many bytes, at most 24.
+        unsafe { image.set_len(length as usize) };
+        Ok(image)
+    }
+}
+
+/// What a flaw of an image means.
+fn flaw_text(flaw: u32) -> &'static str {
+    // SAFETY: for any number the call returns a text with a final 0 byte, which is never freed.
+    unsafe { CStr::from_ptr(kc_flaw_text(flaw)) }.to_str().unwrap_or_default()
+}
+
+/// What the preamble of an image says, if it is that of a tuple sketch of this seed: there are eight bytes or more for
+/// each entry.
+pub(crate) fn tuple_head(image: &[u8], seed: u64) -> Result<TupleHead, Error> {
+    let (mut state, mut found) = (State::default(), Finding::default());
+    let (mut ordered, mut start) = (0, 0);
+    // SAFETY: the bytes are those of a slice, and what is written is this function's own.
+    let read = check(unsafe {
+        kc_tuple_head(image.as_ptr(), image.len(), seed, &mut state, &mut ordered, &mut start, &mut found)
+    });
+    read.map_err(|error| error.because(flaw_text(found.flaw)))?;
+    Ok(TupleHead { state, ordered: ordered != 0, start: start as usize })
 }
 
 impl<K: Operator> Object<K> {

@@ -65,6 +65,11 @@ impl Error {
         Self { kind, text: Cow::Borrowed(kind.text()) }
     }
 
+    /// The same with a reason behind its text.
+    pub(crate) fn because(self, reason: &str) -> Self {
+        Self { text: Cow::Owned(format!("{}: {reason}", self.text)), ..self }
+    }
+
     pub(crate) fn out_of_memory() -> Self {
         Self::of(ErrorKind::OutOfMemory)
     }

@@ -26,7 +26,6 @@ pub mod codec;
 pub mod common;
 pub mod error;
 pub mod hash;
-mod images;
 mod lent;
 mod settings;
 mod state;

@@ -561,9 +561,23 @@ fn images_have_summaries_behind_their_hashes() {
         let read = CompactTupleSketch::<Name>::deserialize(&image).unwrap();
         assert_same(&read, &compact);
         assert_eq!(read.serialize(), image);
-        for length in [7, 8, 23, 24, image.len() - 1] {
+        for length in 0..image.len() {
             let error = CompactTupleSketch::<Name>::deserialize(&image[..length]).unwrap_err();
             assert_eq!(error.kind(), ErrorKind::InvalidData, "cut at {length}");
+        }
+        // No byte of an image makes reading panic, and what is read of a damaged one is written again.
+        for at in 0..image.len() {
+            for byte in [0, 1, 0x7f, 0x80, 0xff, image[at] ^ 4, image[at].wrapping_add(1)] {
+                let mut image = image.clone();
+                image[at] = byte;
+                match CompactTupleSketch::<Name>::deserialize(&image) {
+                    Ok(read) => {
+                        let again = CompactTupleSketch::<Name>::deserialize(&read.serialize()).unwrap();
+                        assert_same(&again, &read);
+                    }
+                    Err(error) => assert_eq!(error.kind(), ErrorKind::InvalidData, "{byte} at {at}"),
+                }
+            }
         }
         assert_eq!(CompactTupleSketch::<Name>::deserialize(&[&image[..], b"x"].concat()).unwrap().serialize(), image);
     }
@@ -611,6 +625,8 @@ fn damaged_images_are_refused_alike_of_sums_and_others() {
         (twice, "a hash twice"),
         (descending, "hashes that don't ascend"),
     ];
+    let error = CompactTupleSketch::<i64>::deserialize(&damaged(6, 0)).unwrap_err();
+    assert!(error.message().contains("the image has another seed hash"), "{error}");
     for (image, what) in wrong {
         let error = CompactTupleSketch::<u64>::deserialize(&image).expect_err(what);
         assert_eq!(error.kind(), ErrorKind::InvalidData, "{what}");

@@ -1,14 +1,15 @@
 //! The compact sketch.
 
+use super::image;
 use super::sums::SumsForm;
 use super::value::TupleSummaryValue;
 use super::view::Entries;
 use super::{TupleEntry, TupleSketchView};
 use crate::border::{self, State};
+use crate::codec::SketchSlice;
 use crate::common::NumStdDev;
 use crate::error::{must, Error, ErrorKind};
 use crate::hash::{seed_hash, DEFAULT_UPDATE_SEED};
-use crate::images::{parted, with_summaries};
 use std::fmt;
 use std::mem::size_of;
 use std::sync::Arc;
@@ -173,9 +174,8 @@ impl<S: TupleSummaryValue> CompactTupleSketch<S> {
         match &self.form {
             Form::Sums(kept) => kept.object.image(),
             Form::Own(OwnForm { keys, entries }) => {
-                let summaries = entries.iter().map(|it| &it.summary);
-                let room = summaries.clone().map(S::serialize_size).sum();
-                with_summaries(&keys.image()?, summaries, room, S::serialize_value)
+                let room = entries.iter().map(|it| it.summary.serialize_size()).sum();
+                image::written(keys, entries.iter().map(TupleEntry::parts), room, S::serialize_value)
             }
         }
     }
@@ -202,7 +202,8 @@ impl<S: TupleSummaryValue> CompactTupleSketch<S> {
         if border::is_same::<S, u64>() {
             return border::CompactSums::of_image(bytes, seed).map(Self::of_sums);
         }
-        let (keys, entries) = parted(bytes, |hash, rest| Ok(TupleEntry::of(hash, S::deserialize_value(rest)?)))?;
-        Ok(Self::of_keys(border::Compact::of_image(&keys, seed)?, entries))
+        let read = |hash, rest: &mut SketchSlice<'_>| Ok(TupleEntry::of(hash, S::deserialize_value(rest)?));
+        let (keys, entries) = image::read(bytes, seed, read)?;
+        Ok(Self::of_keys(keys, entries))
     }
 }

@@ -14,6 +14,10 @@ impl<S> TupleEntry<S> {
         Self { hash: NonZeroU64::new(hash).expect("a retained hash is not 0"), summary }
     }
 
+    pub(super) fn parts(&self) -> (u64, &S) {
+        (self.hash(), &self.summary)
+    }
+
     /// The hash.
     pub fn hash(&self) -> u64 {
         self.hash.get()

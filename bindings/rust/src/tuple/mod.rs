@@ -7,8 +7,8 @@
 //! policy the library decides which hashes are retained, and theta, so estimates, differences and what unions and
 //! intersections retain are proved as those of theta sketches are. The summaries beside these hashes are in a map of
 //! this crate, which calls your policy: that each is what your policy made of the values of its key is tested, not
-//! proved, and so is how they are put between the hashes of an image. Hashes and preambles of all images are written and
-//! read by proved functions.
+//! proved, and so is how they follow their hashes in an image. Preambles of all images are written and read by proved
+//! functions, which also decide whether the hashes of an image are those of a sketch.
 //!
 //! ```
 //! use kaftanclay::tuple::{DefaultUpdatePolicy, TupleSketchBuilder};
@@ -25,6 +25,7 @@
 mod a_not_b;
 mod compact;
 mod entry;
+mod image;
 mod intersection;
 mod own;
 mod policy;

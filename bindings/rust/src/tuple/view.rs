@@ -1,13 +1,13 @@
 //! Views of sketches of both kinds.
 
 use super::compact::{Form, OwnForm};
+use super::image;
 use super::own::OwnSketch;
 use super::sums::SumsSketch;
 use super::{CompactTupleSketch, SummaryPolicy, TupleEntry, TupleSketch};
 use crate::border::{self, number_of, same_slice, State};
 use crate::codec::SketchBytes;
-use crate::error::{must, Error, ErrorKind};
-use crate::images::{parted, with_summaries};
+use crate::error::{must, Error};
 use crate::lent::Lent;
 use std::collections::hash_map::Values;
 use std::{fmt, slice};
@@ -164,18 +164,19 @@ impl<'a, S> TupleSketchView<'a, S> {
     /// The compact theta sketch of the keys, ordered only if the sketch is, or must be. A seed is needed whose hash is
     /// that of the sketch's.
     pub(super) fn keys(self, seed: u64) -> Result<Lent<'a, border::Compact>, Error> {
-        let image = match self.0 {
-            Viewed::Own(sketch) => return sketch.keys().compact(false).map(Lent::Made),
-            Viewed::Form(form) => match &form.form {
-                Form::Own(form) => return Ok(Lent::Given(&form.keys)),
-                Form::Sums(kept) => kept.object.image()?,
-            },
-            Viewed::Sums(sketch) => sketch.object().compact(false)?.image()?,
-        };
         // No call makes it of a sketch of sums.
-        let pass = |_| Error::of(ErrorKind::InvalidData);
-        let (keys, _) = parted(&image, |_, sum| sum.read_u64_le().map(|_| ()).map_err(pass))?;
-        border::Compact::of_image(&keys, seed).map(Lent::Made)
+        let of_sums = |form: &border::CompactSums| {
+            let (hashes, _) = form.entries()?;
+            border::Compact::of_hashes(form.state(), form.is_ordered(), &hashes, seed).map(Lent::Made)
+        };
+        match self.0 {
+            Viewed::Own(sketch) => sketch.keys().compact(false).map(Lent::Made),
+            Viewed::Form(form) => match &form.form {
+                Form::Own(form) => Ok(Lent::Given(&form.keys)),
+                Form::Sums(kept) => of_sums(&kept.object),
+            },
+            Viewed::Sums(sketch) => of_sums(&sketch.object().compact(false)?),
+        }
     }
 
     /// The compact sketch of sums, of a sketch whose summaries are `u64`, ordered and of a seed as `keys` is.
@@ -189,12 +190,12 @@ impl<'a, S> TupleSketchView<'a, S> {
             Viewed::Own(sketch) => {
                 let keys = sketch.keys().compact(false)?;
                 let (map, hashes) = (sketch.map(), keys.hashes()?);
-                with_summaries(&keys.image()?, hashes.iter().map(|hash| &map[hash].summary), room, write)?
+                image::written(&keys, hashes.iter().map(|hash| map[hash].parts()), room, write)?
             }
             Viewed::Form(form) => match &form.form {
                 Form::Sums(kept) => return Ok(Lent::Given(&kept.object)),
                 Form::Own(OwnForm { keys, entries }) => {
-                    with_summaries(&keys.image()?, entries.iter().map(|it| &it.summary), room, write)?
+                    image::written(keys, entries.iter().map(TupleEntry::parts), room, write)?
                 }
             },
         };
