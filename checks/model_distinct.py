@@ -25,7 +25,7 @@ M64 = 2**64 - 1
 
 LINES = "-C --lg-k --field --separator --seed --seed-file --files0-from --part --progress "
 OPTIONS = {
-    "count": LINES + "--by --sort --min --top --bounds --human --tsv --json",
+    "count": LINES + "--by --hex --groups --sort --min --top --bounds --human --tsv --json",
     "sketch": LINES + "--by --value --summary --visits --hex --output --output-dir --force",
     "union": "-C --lg-k --seed --seed-file --files0-from --expect --hex --groups --sums --summary --output",
     "meet": "-C --seed --seed-file --files0-from --expect --hex --output",
@@ -658,8 +658,12 @@ def read_arguments(words):
         raise Fault("--by without --hex and without --output-dir")
     if options.get("--human") and options["form"]:
         raise Fault("--human with --tsv or --json")
-    if {"--sort", "--min", "--top"} & options.keys() and "--by" not in options:
-        raise Fault("--sort, --min or --top without --by")
+    if {"--sort", "--min", "--top"} & options.keys() and not {"--by", "--groups"} & options.keys():
+        raise Fault("--sort, --min or --top without --by and --groups")
+    if command == "count" and "--hex" in options and "--groups" not in options:
+        raise Fault("count --hex without --groups")
+    if command == "count" and "--groups" in options and {"--field", "--by", "--part", "--progress"} & options.keys():
+        raise Fault("count --groups with --field, --by, --part or --progress")
     if {"--part", "--sums"} <= options.keys():
         raise Fault("--part and --sums")
     if "--groups" in options and ("--hex" not in options or "--expect" in options):
@@ -668,7 +672,7 @@ def read_arguments(words):
         raise Fault("--output-dir without --by or with --output")
     if "--files0-from" in options and words:
         raise Fault("a list and files")
-    if command in ("count", "sketch", "visits", "sum") and not words and not {"--files0-from", "--sums"} & options.keys():
+    if command in ("count", "sketch", "visits", "sum") and not words and not {"--files0-from", "--sums", "--groups"} & options.keys():
         words = ["-"]
     read = set(names_of(steps_of(words[0]))) if command == "eval" else words
     if [options["seed"][1], options.get("--files0-from"), *read].count("-") > 1:
@@ -841,6 +845,15 @@ def file_of(folder, name):
     return f"{folder}/" + ("".join(chr(it) if it in plain else f"%{it:02x}" for it in name) or "%") + ".theta"
 
 
+def printed_counts(rows, options):
+    """What `count` prints of the names and the sketches of groups."""
+    reports = [(name, report_of(it, options["--bounds"] or 2)) for name, it in rows]
+    if options["--sort"] == "estimate":
+        reports.sort(key=lambda row: -row[1]["estimate"])
+    reports = [row for row in reports if row[1]["estimate"] >= (options["--min"] or 0)][: options["--top"]]
+    return printed_groups(reports, options)
+
+
 def united_groups(files, names, options, own_hash, messages):
     """The name and the union of the images of each group, in ascending order."""
     groups, read, lg_k = {}, [], options["--lg-k"]
@@ -878,7 +891,7 @@ def run(words, files, messages):
     hex_lines = options["--hex"]
     if command == "minus" and not hex_lines and len(names) != 2:
         raise Fault("not two files")
-    reads_images = command not in ("count", "sketch", "eval", "visits", "sum") or command == "visits" and options["--sums"]
+    reads_images = command not in ("count", "sketch", "eval", "visits", "sum") or options["--groups"] or command == "visits" and options["--sums"]
     if reads_images and not names and "--files0-from" not in options:
         raise Fault("no image")
     seed = seed_of(files, options)
@@ -892,7 +905,7 @@ def run(words, files, messages):
                 raise Failure(f"{escaped(called(options['--files0-from']))}: name {number} is empty or not UTF-8 text")
         names = [name.decode() for name in listed]
     read = names_of(steps_of(names[0])) if command == "eval" else names
-    has_lines = options["--keys"] or command in ("count", "sketch", "visits", "sum") and not options["--sums"]
+    has_lines = options["--keys"] or command in ("count", "sketch", "visits", "sum") and not options["--sums"] and not options["--groups"]
     if has_lines and options["--output"] not in (None, "-") and options["--output"] in read and "--force" not in options:
         raise Fault("the output is an input")
     part = options["--part"]
@@ -913,17 +926,15 @@ def run(words, files, messages):
         return written(image.hex().encode() + b"\n" if hex_lines else image, files, options)
     if options["--groups"]:
         groups = united_groups(files, names, options, seed_hash(seed), messages)
+        if command == "count":
+            return printed_counts(groups, options)
         return written(b"".join(group_line(name, image_of(it, seed_hash(seed))) for name, it in groups), files, options)
     z = options["--bounds"] or 2
     if options["--by"]:
         groups = groups_of([text_of(files, name) for name in names], options)
         rows = [(name, sketch_of([text], options, seed)) for name, text in groups.items()]
         if command == "count":
-            reports = [(name, report_of(it, z)) for name, it in rows]
-            if options["--sort"] == "estimate":
-                reports.sort(key=lambda row: -row[1]["estimate"])
-            reports = [row for row in reports if row[1]["estimate"] >= (options["--min"] or 1)][: options["--top"]]
-            return printed_groups(reports, options)
+            return printed_counts(rows, options)
         images = [(name, image_of(it, seed_hash(seed))) for name, it in rows]
         if options["--output-dir"]:
             for name, _ in images:

@@ -12,7 +12,7 @@ use Rattle.distinct_arguments.specs.Table.{Condition, Row, rows, option_of, has_
 use Rattle.distinct_arguments.specs.Settings.{SeedValue, seed_number, seed_file, OptionValues, default_options}
 use Rattle.distinct_arguments.specs.Settings.{Mistake, no_command, unknown_command, unknown_option}
 use Rattle.distinct_arguments.specs.Settings.{no_value, unneeded_value, not_one_expression, sum_needs_value}
-use Rattle.distinct_arguments.specs.Settings.{separator_needs_field, groups_need_output, needs, excludes}
+use Rattle.distinct_arguments.specs.Settings.{separator_needs_field, groups_need_output, needs_groups, needs, excludes}
 use Rattle.distinct_arguments.specs.Settings.{list_excludes_files, standard_twice, output_is_input, with_flag, with_value}
 use Rattle.distinct_arguments.specs.Settings.{is_given}
 use Rattle.distinct_arguments.specs.declared.commands.Command.{Command}
@@ -21,7 +21,7 @@ use Rattle.distinct_arguments.specs.declared.commands.Topic.TheVariants.{Program
 use Rattle.distinct_arguments.specs.declared.commands.Command.TheVariants.{Sum}
 use Rattle.distinct_arguments.specs.declared.table.OptionName.{OptionName}
 use Rattle.distinct_arguments.specs.declared.table.Rule.{Rule}
-use Rattle.distinct_arguments.specs.declared.table.Rule.TheVariants.{Needs, Excludes, NeedsField, NeedsOutput}
+use Rattle.distinct_arguments.specs.declared.table.Rule.TheVariants.{Needs, Excludes, NeedsField, NeedsOutput, NeedsGroups}
 
 -- what the program does: it prints a text, runs a command on files, or fails
 pub data Action : Type 0 where
@@ -82,9 +82,13 @@ is_standard_seed (seed_file name) = is_standard name
 abbrev pub is_standard_list : Option (List ℕ) → Bool
 is_standard_list list = option_map_or is_standard list false
 
--- whether lines are read from standard input because there is no file; images of sums are not
+-- whether options say that the files have images: of sums, or of groups
+abbrev pub reads_images : OptionValues → Bool
+reads_images options = options.sums || options.groups
+
+-- whether lines are read from standard input because there is no file; images are not
 abbrev pub is_standard_default : Command → OptionValues → (files : List (List ℕ)) → Bool
-is_standard_default command options files = reads_lines command && not options.sums && is_none options.list && length files == 0
+is_standard_default command options files = reads_lines command && not (reads_images options) && is_none options.list && length files == 0
 
 -- how often standard input is read
 abbrev pub standard_uses : Command → OptionValues → (files : List (List ℕ)) → ℕ
@@ -111,12 +115,17 @@ chooses_field options = is_some options.field || is_some options.by || is_some o
 abbrev pub places_groups : OptionValues → Bool
 places_groups options = options.hex || is_some options.folder
 
+-- whether options make groups: of lines, or of images
+abbrev pub makes_groups : OptionValues → Bool
+makes_groups options = is_some options.by || options.groups
+
 -- the mistake of an option that is given, if it breaks a rule
 abbrev pub broken_rule : OptionValues → OptionName → Rule → Option Mistake
 broken_rule options option (Needs other) = if is_given options other then None else Some (needs option other)
 broken_rule options option (Excludes other) = if is_given options other then Some (excludes option other) else None
 broken_rule options option NeedsField = if chooses_field options then None else Some separator_needs_field
 broken_rule options option NeedsOutput = if places_groups options then None else Some groups_need_output
+broken_rule options option NeedsGroups = if makes_groups options then None else Some (needs_groups option)
 
 -- the first of two mistakes, if there is one
 abbrev pub first_of : (first second : Option Mistake) → Option Mistake
@@ -149,7 +158,7 @@ broken command options = broken_row command options rows
 
 -- whether a command reads the files of these options as lines
 abbrev pub reads_texts : Command → OptionValues → Bool
-reads_texts command options = reads_lines command && not options.sums || options.keys
+reads_texts command options = reads_lines command && not (reads_images options) || options.keys
 
 -- whether the output of this name is one of the files of lines that a command reads, and may not be; `-` is standard input
 abbrev pub overwrites : Command → OptionValues → (name : List ℕ) → (files : List (List ℕ)) → Bool

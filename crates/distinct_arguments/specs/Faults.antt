@@ -9,7 +9,7 @@ use Rattle.distinct_arguments.specs.Settings.{OptionValues, Mistake, no_command}
 use Rattle.distinct_arguments.specs.Settings.{unknown_command, unknown_option, no_value}
 use Rattle.distinct_arguments.specs.Settings.{unneeded_value, wrong_value, zero_seed, not_one_expression}
 use Rattle.distinct_arguments.specs.Settings.{sum_needs_value, output_is_input}
-use Rattle.distinct_arguments.specs.Settings.{separator_needs_field, groups_need_output, needs, excludes}
+use Rattle.distinct_arguments.specs.Settings.{separator_needs_field, groups_need_output, needs_groups, needs, excludes}
 use Rattle.distinct_arguments.specs.Settings.{list_excludes_files, standard_twice}
 use Rattle.distinct_arguments.specs.Words.{words_of}
 use Rattle.distinct_arguments.specs.declared.arguments.Meaning.{Meaning as MeaningOf}
@@ -28,7 +28,7 @@ use Rattle.distinct_arguments.specs.declared.fault.Fault.TheVariants.{NoCommand,
 use Rattle.distinct_arguments.specs.declared.fault.Fault.TheVariants.{NoValue, UnneededValue}
 use Rattle.distinct_arguments.specs.declared.fault.Fault.TheVariants.{WrongValue, ZeroSeed, OutputIsInput}
 use Rattle.distinct_arguments.specs.declared.fault.Fault.TheVariants.{NotOneExpression, SumNeedsValue}
-use Rattle.distinct_arguments.specs.declared.fault.Fault.TheVariants.{SeparatorNeedsField, GroupsNeedOutput}
+use Rattle.distinct_arguments.specs.declared.fault.Fault.TheVariants.{SeparatorNeedsField, GroupsNeedOutput, NeedsGroups}
 use Rattle.distinct_arguments.specs.declared.fault.Fault.TheVariants.{Needs, Excludes, ListExcludesFiles}
 use Rattle.distinct_arguments.specs.declared.fault.Fault.TheVariants.{StandardTwice, Memory}
 use Rattle.distinct_arguments.specs.declared.fault.WrongWord.{WrongWord}
@@ -53,6 +53,7 @@ mistake_of NotOneExpression = Some not_one_expression
 mistake_of SumNeedsValue = Some sum_needs_value
 mistake_of SeparatorNeedsField = Some separator_needs_field
 mistake_of GroupsNeedOutput = Some groups_need_output
+mistake_of (NeedsGroups option) = Some (needs_groups option)
 mistake_of (Needs option other) = Some (needs option other)
 mistake_of (Excludes option other) = Some (excludes option other)
 mistake_of ListExcludesFiles = Some list_excludes_files

@@ -134,6 +134,7 @@ pub data Mistake : Type 0 where
   sum_needs_value : Mistake
   separator_needs_field : Mistake
   groups_need_output : Mistake
+  needs_groups : (option : OptionName) → Mistake
   needs : (option other : OptionName) → Mistake
   excludes : (option other : OptionName) → Mistake
   list_excludes_files : Mistake

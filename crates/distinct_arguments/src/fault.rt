@@ -31,6 +31,8 @@ pub enum Fault {
     SeparatorNeedsField,
     /// `sketch` has `--by` without `--hex` and without `--output-dir`.
     GroupsNeedOutput,
+    /// There is this option without one that makes groups: `--by` or `--groups`.
+    NeedsGroups(OptionName),
     /// There is the first option, which needs the second, without it.
     Needs(OptionName, OptionName),
     /// There are two options that exclude each other.
@@ -168,6 +170,7 @@ impl fmt::Display for Fault {
             }
             Fault::SeparatorNeedsField => write!(f, "--separator needs --field, --by or --value"),
             Fault::GroupsNeedOutput => write!(f, "--by needs --hex or --output-dir"),
+            Fault::NeedsGroups(option) => write!(f, "{} needs --by or --groups", name_of(*option)),
             Fault::Needs(option, other) => write!(
                 f,
                 "{} needs {}{}",

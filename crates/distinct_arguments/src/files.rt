@@ -5,10 +5,10 @@ ghost use Rattle.std.specs.List.{list_any};
 ghost use Rattle.std.specs.Str.{bytes_eq};
 ghost use Rattle.distinct_arguments.specs.Arguments.{standard_files, standard_uses, is_standard_seed, is_standard_list};
 ghost use Rattle.distinct_arguments.specs.Arguments.{is_standard_default, has_one_expression, lacks_value};
-ghost use Rattle.distinct_arguments.specs.Arguments.{chooses_field, places_groups, broken_rule, broken_in};
+ghost use Rattle.distinct_arguments.specs.Arguments.{chooses_field, places_groups, makes_groups, broken_rule, broken_in};
 ghost use Rattle.distinct_arguments.specs.Arguments.{broken_condition, broken_by, broken_row, broken};
 ghost use Rattle.distinct_arguments.specs.Arguments.{run_action, listed_action};
-ghost use Rattle.distinct_arguments.specs.Arguments.{keeps_files, output_mistake, reads_texts};
+ghost use Rattle.distinct_arguments.specs.Arguments.{keeps_files, output_mistake, reads_images, reads_texts};
 ghost use Rattle.distinct_arguments.specs.Faults.{options_of, seed_value, ParsesAs, Reports, ReportsIf};
 ghost use Rattle.distinct_arguments.specs.Table.{condition_in, row_in};
 ghost use Rattle.distinct_arguments.specs.Words.{is_standard, reads_lines, reads_expression, words_of};
@@ -77,11 +77,18 @@ fn has_one_expression(command: Command, files: &[String]) -> bool
     !reads_expression(command) || files.len() == 1
 }
 
+/// Whether options say that the files have images.
+fn reads_images(options: &Options<'_>) -> bool
+    ensures { result ≡ reads_images (options_of options.now) }
+{
+    options.sums || options.groups
+}
+
 /// Whether a command reads lines from standard input because it has no file.
 fn is_standard_default(command: Command, options: &Options<'_>, files: &[String]) -> bool
     ensures { result ≡ is_standard_default command (options_of options.now) (words_of files.now) }
 {
-    reads_lines(command) && !options.sums && options.list.is_none() && files.is_empty()
+    reads_lines(command) && !reads_images(options) && options.list.is_none() && files.is_empty()
 }
 
 /// 1 if a test holds, else 0.
@@ -143,6 +150,13 @@ fn places_groups(options: &Options<'_>) -> bool
     options.hex || options.folder.is_some()
 }
 
+/// Whether options make groups: of lines, or of images.
+fn makes_groups(options: &Options<'_>) -> bool
+    ensures { result ≡ makes_groups (options_of options.now) }
+{
+    options.by.is_some() || options.groups
+}
+
 /// The fault of an option that is given, if it breaks a rule.
 fn broken_rule(options: &Options<'_>, option: OptionName, rule: Rule) -> Option<Fault>
     ensures { ReportsIf result (broken_rule (options_of options.now) option rule) }
@@ -152,6 +166,7 @@ fn broken_rule(options: &Options<'_>, option: OptionName, rule: Rule) -> Option<
         Rule::Excludes(other) if is_given(options, other) => Some(Fault::Excludes(option, other)),
         Rule::NeedsField if !chooses_field(options) => Some(Fault::SeparatorNeedsField),
         Rule::NeedsOutput if !places_groups(options) => Some(Fault::GroupsNeedOutput),
+        Rule::NeedsGroups if !makes_groups(options) => Some(Fault::NeedsGroups(option)),
         _ => None,
     }
 }
@@ -263,7 +278,7 @@ pub(crate) fn run_request<'a>(
 pub fn reads_texts(command: Command, options: &Options<'_>) -> bool
     ensures { result ≡ reads_texts command (options_of options.now) }
 {
-    reads_lines(command) && !options.sums || options.keys
+    reads_lines(command) && !reads_images(options) || options.keys
 }
 
 /// Whether a name is one of these.

@@ -38,6 +38,7 @@ Read:
                           without a separator is its own key, and a line of fewer fields has the
                           empty key
   -d, --separator C       the byte between fields, with --field or --by; default a tab
+      --hex               images in hexadecimal, one per line. Needs --groups
       --files0-from FILE  read the names of the files from FILE, each ended by a NUL byte
       --part I/N          read part I of N of each file's lines, I from 1 to N. A line is in the
                           part in whose range of bytes it begins; the ranges are equal. Files must
@@ -51,14 +52,16 @@ Count:
       --seed-file FILE    read the seed from FILE, which keeps it out of the process list
       --by N              count each group of lines that have the same field N, as in cut -f N.
                           Print a line per group, in ascending order: its name, a tab, its count
+      --groups            with --hex: count the union of the images of each group. A line has the
+                          name of a group, a tab and an image, as sketch and union write them. Not
+                          with --by, --field, --part or --progress
 
 Print:
-      --sort ORDER        with --by, the order of groups: name, the default, or estimate, the
-                          greatest first and equal ones by name
-      --min N             with --by, print only groups whose estimate is at least N; N from 1 to
-                          2^64 - 1
-      --top N             with --by, print only the first N groups, in the order of --sort, of
-                          those that --min leaves; N from 1 to 2^64 - 1
+      --sort ORDER        the order of groups: name, the default, or estimate, the greatest first
+                          and equal ones by name
+      --min N             print only groups whose estimate is at least N; N from 1 to 2^64 - 1
+      --top N             print only the first N groups, in the order of --sort, of those that
+                          --min leaves; N from 1 to 2^64 - 1
       --progress          about once a second, report on standard error how many lines and bytes
                           were read, and the estimate or the number of groups so far
       --bounds[=Z]        print three numbers: the estimate, its lower and its upper bound, for
@@ -72,6 +75,7 @@ Print:
 Examples:
   distinct count -f2 -d' ' access.log                  how many values field 2 has
   distinct count --by 1 --sort estimate --top 9 a.log  the nine largest groups
+  distinct count --hex --groups a.groups b.groups      the groups of both files
 ";
 
 const SKETCH: &str = "\

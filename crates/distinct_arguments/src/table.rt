@@ -76,6 +76,8 @@ pub(crate) enum Rule {
     NeedsField,
     /// It needs one that says where the images of groups go: `--hex` or `--output-dir`.
     NeedsOutput,
+    /// It needs one that makes groups: `--by` or `--groups`.
+    NeedsGroups,
 }
 
 /// A rule, in front of it the words of the commands in which it holds, and behind it the end of the message if it is
@@ -219,12 +221,21 @@ pub(crate) const OPTIONS: [Row; 29] = [
         "--hex",
         None,
         Kind::Flag,
-        &["sketch", "union", "meet", "minus", "show", "eval", "visits"],
-        &[(
-            &["visits"],
-            Rule::Needs(OptionName::Sums),
-            ": without it visits reads lines",
-        )],
+        &[
+            "count", "sketch", "union", "meet", "minus", "show", "eval", "visits",
+        ],
+        &[
+            (
+                &["count"],
+                Rule::Needs(OptionName::Groups),
+                ": without it count reads lines",
+            ),
+            (
+                &["visits"],
+                Rule::Needs(OptionName::Sums),
+                ": without it visits reads lines",
+            ),
+        ],
     ),
     (
         OptionName::FileList,
@@ -240,11 +251,18 @@ pub(crate) const OPTIONS: [Row; 29] = [
         None,
         Kind::Share,
         &["count", "sketch", "visits", "sum"],
-        &[(
-            &["visits"],
-            Rule::Excludes(OptionName::Sums),
-            ": an image is read whole",
-        )],
+        &[
+            (
+                &["count"],
+                Rule::Excludes(OptionName::Groups),
+                ": an image is read whole",
+            ),
+            (
+                &["visits"],
+                Rule::Excludes(OptionName::Sums),
+                ": an image is read whole",
+            ),
+        ],
     ),
     (OptionName::Dir, "-C", None, Kind::Text, ALL, &[]),
     (
@@ -277,8 +295,25 @@ pub(crate) const OPTIONS: [Row; 29] = [
         "--groups",
         None,
         Kind::Flag,
-        &["union"],
-        &[(ALL, Rule::Needs(OptionName::Hex), "")],
+        &["count", "union"],
+        &[
+            (ALL, Rule::Needs(OptionName::Hex), ""),
+            (
+                &["count"],
+                Rule::Excludes(OptionName::Field),
+                ": pass --field to sketch",
+            ),
+            (
+                &["count"],
+                Rule::Excludes(OptionName::By),
+                ": pass --by to sketch",
+            ),
+            (
+                &["count"],
+                Rule::Excludes(OptionName::Progress),
+                ": drop --progress",
+            ),
+        ],
     ),
     (
         OptionName::Expect,
@@ -294,7 +329,7 @@ pub(crate) const OPTIONS: [Row; 29] = [
         None,
         Kind::Order,
         &["count"],
-        &[(ALL, Rule::Needs(OptionName::By), ", whose groups it orders")],
+        &[(ALL, Rule::NeedsGroups, "")],
     ),
     (
         OptionName::Min,
@@ -302,11 +337,7 @@ pub(crate) const OPTIONS: [Row; 29] = [
         None,
         Kind::Number(1, u64::MAX),
         &["count"],
-        &[(
-            ALL,
-            Rule::Needs(OptionName::By),
-            ", whose smaller groups it leaves out",
-        )],
+        &[(ALL, Rule::NeedsGroups, "")],
     ),
     (
         OptionName::Top,
@@ -314,11 +345,7 @@ pub(crate) const OPTIONS: [Row; 29] = [
         None,
         Kind::Number(1, u64::MAX),
         &["count"],
-        &[(
-            ALL,
-            Rule::Needs(OptionName::By),
-            ", whose first groups it prints",
-        )],
+        &[(ALL, Rule::NeedsGroups, "")],
     ),
     (
         OptionName::Progress,

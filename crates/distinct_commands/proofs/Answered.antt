@@ -18,11 +18,10 @@ use Rattle.keys_sums.specs.declared.addends.Amount.{Amount}
 use Rattle.keys_sums.specs.declared.addends.Amount.TheVariants.{Number}
 use Rattle.distinct_commands.specs.Sums.{sums_of, IsSumsText}
 use Rattle.distinct_commands.specs.Answers.{sketch_of, lines_text, IsLinesText}
-use Rattle.distinct_commands.specs.Groups.{grouping_of, group_estimate, chosen_order, counted_names, AreOrdered, groups_head, groups_text, IsGroupedText}
-use Rattle.distinct_commands.specs.Ranked.{first_items}
+use Rattle.distinct_commands.specs.Groups.{grouping_of, IsGroupsText, IsGroupedText}
 use Rattle.distinct_commands.specs.Texts.{count_text}
 use Rattle.distinct_commands.specs.Visits.{visits_text, IsVisitsOfImages}
-use Rattle.keys_groups.specs.Groups.{AreGroups}
+use Rattle.keys_groups.specs.Groups.{AreGroups, group_sketch}
 use Rattle.distinct_inputs.specs.Images.{in_form}
 use Rattle.distinct_arguments.specs.Settings.{OptionValues, chosen_value}
 use Rattle.distinct_arguments.specs.declared.fault.Fault.TheVariants.{SumNeedsValue}
@@ -49,13 +48,11 @@ by_groups true options seed texts by out is = is
 
 pub grouped : {V E : Type 0} (r : Result V E) (items : V → List ℕ) (images : Bool) (chosen : Option Key) (by : Key) (options : OptionValues) (seed : ℕ) (texts names : List (List ℕ)) →
     chosen ≡ Some by → AreGroups by (lines_of_all texts) names →
-    IfOk r (λ v. (ordered : List (List ℕ))
-    × AreOrdered (chosen_order options) (group_estimate options (grouping_of options seed by) (lines_of_all texts)) (counted_names options (grouping_of options seed by) (lines_of_all texts) names) ordered
-    × (items v ≡ groups_head images options ++ groups_text images options (grouping_of options seed by) (lines_of_all texts) (first_items options.most ordered))) →
+    IfOk r (λ v. IsGroupsText images options (group_sketch (grouping_of options seed by) (lines_of_all texts)) names (items v)) →
     IfOk r (λ v. IsLinesText images chosen options seed texts (items v))
 grouped (Err e) items images chosen by options seed texts names is has printed = tt
 grouped (Ok v) items images chosen by options seed texts names is has printed =
-    subst (λ (b : Option Key). IsLinesText images b options seed texts (items v)) (sym is) (by_groups images options seed texts by (items v) (names, printed.0, has, printed.1, printed.2))
+    subst (λ (b : Option Key). IsLinesText images b options seed texts (items v)) (sym is) (by_groups images options seed texts by (items v) (names, has, printed))
 
 -- an ordered sketch has its seed hash
 ordered_seed : {X : Type 0} (v : Sketch X) (h : ℕ) → (ordered_sketch v h).seed_hash ≡ h

@@ -1,6 +1,5 @@
 -- The lines of groups, one after another.
-use Rattle.std.proofs.Common.{ℕ, ◌≡◌, Bool, true, false, cond, List, [], ◌∷◌, ◌++◌, map, refl, sym, ap, ◌∙◌, append_assoc, append-nil}
-use Rattle.std.specs.Prelude.{flat_map}
+use Rattle.std.proofs.Common.{ℕ, ◌≡◌, Bool, true, false, cond, List, [], ◌∷◌, ◌++◌, map, refl, sym, ap, ◌∙◌}
 use Rattle.std.specs.List.{filter}
 use Rattle.std.proofs.lemmas.List.{map-append}
 use Rattle.std.proofs.lemmas.List.Elements.{All-nil, All-push}
@@ -14,19 +13,6 @@ module _ (p : List ℕ → Bool) where
 
   pub name_dropped : (names others : List (List ℕ)) (name : List ℕ) → names ≡ name ∷ others → p name ≡ false → filter p names ≡ filter p others
   name_dropped names others name parted dropped = ap (filter p) parted ∙ ap (λ b. cond b (name ∷ filter p others) (filter p others)) dropped
-
-module _ (line_of : List ℕ → List ℕ) where
-  -- one line more
-  pub line_added : (all printed line : List ℕ) (names others : List (List ℕ)) (name : List ℕ) → all ≡ printed ++ flat_map line_of names → names ≡ name ∷ others → line ≡ line_of name → all ≡ (printed ++ line) ++ flat_map line_of others
-  line_added all printed line names others name so_far parted is =
-      so_far
-      ∙ ap (λ ns. printed ++ flat_map line_of ns) parted
-      ∙ ap (λ l. printed ++ (l ++ flat_map line_of others)) (sym is)
-      ∙ sym (append_assoc printed line (flat_map line_of others))
-
-  -- all lines
-  pub all_lines : (all printed : List ℕ) (names : List (List ℕ)) → all ≡ printed ++ flat_map line_of names → names ≡ [] → printed ≡ all
-  all_lines all printed names so_far none = sym (so_far ∙ ap (λ ns. printed ++ flat_map line_of ns) none ∙ append-nil printed)
 
 -- groups, each with its estimate and its text
 module _ (estimate : List ℕ → ℕ) (text : List ℕ → List ℕ) where

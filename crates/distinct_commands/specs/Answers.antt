@@ -21,7 +21,7 @@ use Rattle.distinct_messages.specs.Failures.{display_name}
 use Rattle.distinct_inputs.specs.Failures.{chosen_amount, chosen_hashing, chosen_summary, unites_groups, unites_sums}
 use Rattle.distinct_commands.specs.Eval.{IsEvaluatedOf}
 use Rattle.distinct_inputs.specs.Images.{images_of, in_form}
-use Rattle.distinct_commands.specs.Groups.{IsGroupedText}
+use Rattle.distinct_commands.specs.Groups.{IsGroupedText, IsUnitedCount}
 use Rattle.keys_lines.specs.declared.key.Key.{Key}
 use Rattle.distinct_commands.specs.Texts.{count_text, shown_text, head_of}
 use Rattle.distinct_commands.specs.Sums.{IsSumsText, IsTotalText}
@@ -100,10 +100,15 @@ abbrev pub IsShownOf : OptionValues → (seed : ℕ) → (names texts : List (Li
 IsShownOf options seed names texts out =
     (lines : List ℕ) × AreLinesOf options.hex options seed names texts lines × (out ≡ head_of options.form ++ lines)
 
--- what `count` prints of texts, by the key of their groups if there is one
+-- what `count` prints of the lines of texts, by the key of their groups if there is one
 abbrev pub IsCountOf : (by : Option Key) → OptionValues → (seed : ℕ) → (texts : List (List ℕ)) → List ℕ → Type 0
 IsCountOf None options seed texts out = out ≡ count_text options (sketch_of options seed texts)
 IsCountOf (Some by) options seed texts out = IsGroupedText false options seed by texts out
+
+-- what `count` prints of texts: of their lines, or of the groups of images in them
+abbrev pub IsCountText : (of_groups : Bool) → OptionValues → (seed : ℕ) → (texts : List (List ℕ)) → List ℕ → Type 0
+IsCountText false options seed texts out = IsCountOf (chosen_group options) options seed texts out
+IsCountText true options seed texts out = IsUnitedCount options seed texts out
 
 -- what `sketch` writes of texts, by the key of their groups if there is one
 abbrev pub IsSketchOf : (by : Option Key) → OptionValues → (seed : ℕ) → (texts : List (List ℕ)) → List ℕ → Type 0
@@ -133,7 +138,7 @@ IsCombinedText true operator options seed texts out = IsUnitedText seed options.
 
 -- what a command writes for files of these names and texts; the only name of `eval` is its expression
 abbrev pub IsCommandAnswer : Command → OptionValues → (seed : ℕ) → (names texts : List (List ℕ)) → List ℕ → Type 0
-IsCommandAnswer Count options seed names texts out = IsCountOf (chosen_group options) options seed texts out
+IsCommandAnswer Count options seed names texts out = IsCountText options.groups options seed texts out
 IsCommandAnswer Sketch options seed names texts out = IsSketchText (chosen_amount options) (chosen_group options) options seed texts out
 IsCommandAnswer (Combine operator) options seed names texts out = IsCombinedText (unites_groups operator options) operator options seed texts out
 IsCommandAnswer Show options seed names texts out = IsShownOf options seed names texts out

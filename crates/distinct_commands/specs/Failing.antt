@@ -18,7 +18,7 @@ use Rattle.distinct_arguments.specs.declared.commands.Command.TheVariants.{Visit
 use Rattle.distinct_arguments.specs.declared.fault.Fault.TheVariants.{NotOneExpression}
 use Rattle.distinct_inputs.specs.Failures.{chosen_summary, images_in, unites_groups, IsOfReading, IsOfImages, IsOfSketch}
 use Rattle.distinct_messages.specs.Failures.{IsOfWriting}
-use Rattle.distinct_inputs.specs.Failures.{IsOfOperator, IsOfVisits, IsOfTotal}
+use Rattle.distinct_inputs.specs.Failures.{IsOfGroups, IsOfOperator, IsOfVisits, IsOfTotal}
 use Rattle.distinct_inputs.specs.Images.{images_of}
 use Rattle.distinct_inputs.specs.Lists.{IsFirstUnnamed}
 use Rattle.distinct_messages.specs.declared.failure.Failure.{Failure}
@@ -96,10 +96,15 @@ abbrev pub OrNoFiles : (HasNone : Type 0) → (IsOther : Failure → Type 0) →
 OrNoFiles HasNone IsOther NoFiles = HasNone
 OrNoFiles HasNone IsOther failure = IsOther failure
 
+-- `count` fails: a file of lines can't be read; or no image is named, or groups of images can't be united
+abbrev pub IsOfCount : (of_groups : Bool) → (seed count : ℕ) → (texts : Option (List (List ℕ))) → Failure → Type 0
+IsOfCount false seed count texts failure = IsOfReading failure
+IsOfCount true seed count texts failure = OrNoFiles (count ≡ 0) (IsOfGroups seed texts) failure
+
 -- a command on files of these names fails before it writes: what it reads is at fault, or memory was refused; and by command, no image
 -- is named, there are not as many as are expected, `minus` doesn't have two, or `sum` doesn't have the field of its numbers
 abbrev pub IsOfCommand : Command → OptionValues → (seed count : ℕ) → (texts : Option (List (List ℕ))) → Failure → Type 0
-IsOfCommand Count options seed count texts failure = IsOfReading failure
+IsOfCommand Count options seed count texts failure = IsOfCount options.groups seed count texts failure
 IsOfCommand Sketch options seed count texts failure = IsOfSketch options seed texts failure
 IsOfCommand (Combine operator) options seed count texts failure =
     OrNoFiles (count ≡ 0) (IsOfOperator (unites_groups operator options) operator options seed count texts) failure

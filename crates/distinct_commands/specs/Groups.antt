@@ -8,11 +8,10 @@ use Rattle.keys_reports.specs.declared.report.Report.{Report}
 use Rattle.keys_reports.specs.Forms.{json_line, tsv_row}
 use Rattle.keys_lines.specs.Lines.{lines_of_all}
 use Rattle.keys_lines.specs.declared.key.Key.{Key}
-use Rattle.keys_groups.specs.Groups.{AreGroups, AreLeft, group_sketch}
-use Rattle.keys_groups.specs.United.{image_line}
+use Rattle.keys_groups.specs.Groups.{AreGroups, group_sketch}
+use Rattle.keys_groups.specs.United.{image_line, AreNames, AreUnionSketches}
 use Rattle.keys_groups.specs.declared.groups.Group.{Group}
 use Rattle.keys_groups.specs.declared.groups.Grouping.{Grouping}
-use Rattle.keys_groups.specs.declared.groups.Groups.{Groups}
 use Rattle.distinct_arguments.specs.Settings.{OptionValues}
 use Rattle.distinct_arguments.specs.declared.options.Order.{Order}
 use Rattle.distinct_arguments.specs.declared.options.Order.TheVariants.{Name, Estimate}
@@ -42,9 +41,9 @@ abbrev pub group_line : (images : Bool) → OptionValues → (name : List ℕ) �
 group_line false options name s = group_text options name s
 group_line true options name s = image_line name (written s)
 
--- the lines of the groups of lines that have these names, each with the sketch of its own lines
-abbrev pub groups_text : (images : Bool) → OptionValues → Grouping → (lines names : List (List ℕ)) → List ℕ
-groups_text images options grouping lines names = flat_map (λ name. group_line images options name (group_sketch grouping lines name)) names
+-- the lines of the groups of these names, each with its sketch
+abbrev pub groups_text : (images : Bool) → OptionValues → (sketch : List ℕ → Compact ℕ) → (names : List (List ℕ)) → List ℕ
+groups_text images options sketch names = flat_map (λ name. group_line images options name (sketch name)) names
 
 -- the head of the table of groups, if there is to be one
 abbrev pub groups_head : (images : Bool) → OptionValues → List ℕ
@@ -52,22 +51,23 @@ groups_head true options = []
 groups_head false options = head_of options.form
 
 -- the estimate that is printed of the group of a name
-abbrev pub group_estimate : OptionValues → Grouping → (lines : List (List ℕ)) → (name : List ℕ) → ℕ
-group_estimate options grouping lines name = (report_by options (group_sketch grouping lines name)).estimate
+abbrev pub group_estimate : OptionValues → (sketch : List ℕ → Compact ℕ) → (name : List ℕ) → ℕ
+group_estimate options sketch name = (report_by options (sketch name)).estimate
 
 -- the names of the groups that are counted: those whose estimate is at least that of `--min`, if there is one
-abbrev pub counted_names : OptionValues → Grouping → (lines names : List (List ℕ)) → List (List ℕ)
-counted_names options grouping lines names = filter (λ name. reaches options.least (group_estimate options grouping lines name)) names
+abbrev pub counted_names : OptionValues → (sketch : List ℕ → Compact ℕ) → (names : List (List ℕ)) → List (List ℕ)
+counted_names options sketch names = filter (λ name. reaches options.least (group_estimate options sketch name)) names
 
 -- the first group of those that were left and are counted, and the others that are counted are left now; there is none
 -- only if none was left
-abbrev pub IsNextCounted : OptionValues → Grouping → (lines names : List (List ℕ)) → (new : Groups) → Option Group → Type 0
-IsNextCounted options grouping lines names new None = counted_names options grouping lines names ≡ []
-IsNextCounted options grouping lines names new (Some group) =
+abbrev pub IsNextCounted : {G : Type 0} → (lists : (names : List (List ℕ)) → G → Type 0) → OptionValues → (sketch : List ℕ → Compact ℕ) →
+    (names : List (List ℕ)) → (new : G) → Option Group → Type 0
+IsNextCounted lists options sketch names new None = counted_names options sketch names ≡ []
+IsNextCounted lists options sketch names new (Some group) =
     (others : List (List ℕ))
-    × (counted_names options grouping lines names ≡ group.name.items ∷ counted_names options grouping lines others)
-    × (group.sketch ≡ group_sketch grouping lines group.name.items)
-    × AreLeft grouping lines others new
+    × (counted_names options sketch names ≡ group.name.items ∷ counted_names options sketch others)
+    × (group.sketch ≡ sketch group.name.items)
+    × lists others new
 
 -- the order of groups: by name, if none is chosen
 abbrev pub chosen_order : OptionValues → Order
@@ -78,13 +78,26 @@ abbrev pub AreOrdered : Order → (estimate : List ℕ → ℕ) → (names order
 AreOrdered Estimate estimate names ordered = AreRanked estimate names ordered
 AreOrdered Name estimate names ordered = ordered ≡ names
 
--- what is printed of the lines of texts by groups, after the head: of the groups of these lines those that are counted
--- are put into the order that is chosen, and each of the first ones, as many as `--top` says, or of all has a line
+-- What is printed of the groups of these names and sketches, after the head: those that are counted are put into the order
+-- that is chosen, and each of the first ones, as many as `--top` says, or of all has a line.
+abbrev pub IsGroupsText : (images : Bool) → OptionValues → (sketch : List ℕ → Compact ℕ) → (names : List (List ℕ)) → List ℕ → Type 0
+IsGroupsText images options sketch names out =
+    (ordered : List (List ℕ))
+    × AreOrdered (chosen_order options) (group_estimate options sketch) (counted_names options sketch names) ordered
+    × (out ≡ groups_head images options ++ groups_text images options sketch (first_items options.most ordered))
+
+-- what is printed of the lines of texts by groups, each with the sketch of its own lines
 abbrev pub IsGroupedText : (images : Bool) → OptionValues → (seed : ℕ) → (by : Key) → (texts : List (List ℕ)) → List ℕ → Type 0
 IsGroupedText images options seed by texts out =
-    let lines = lines_of_all texts in
-    let grouping = grouping_of options seed by in
-    (names ordered : List (List ℕ))
-    × AreGroups by lines names
-    × AreOrdered (chosen_order options) (group_estimate options grouping lines) (counted_names options grouping lines names) ordered
-    × (out ≡ groups_head images options ++ groups_text images options grouping lines (first_items options.most ordered))
+    (names : List (List ℕ))
+    × AreGroups by (lines_of_all texts) names
+    × IsGroupsText images options (group_sketch (grouping_of options seed by) (lines_of_all texts)) names out
+
+-- what is printed of the groups of images in the lines of texts, each with the sketch of the union of its own images
+abbrev pub IsUnitedCount : OptionValues → (seed : ℕ) → (texts : List (List ℕ)) → List ℕ → Type 0
+IsUnitedCount options seed texts out =
+    (names : List (List ℕ))
+    × (sketch : List ℕ → Compact ℕ)
+    × AreNames (lines_of_all texts) names
+    × AreUnionSketches seed options.lg_k (lines_of_all texts) sketch
+    × IsGroupsText false options sketch names out

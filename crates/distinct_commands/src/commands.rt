@@ -5,11 +5,11 @@ ghost use Rattle.sketch_base.specs.Seed.{seed_hash};
 ghost use Rattle.theta_sketches.specs.Image.{written};
 ghost use Rattle.distinct_arguments.specs.Faults.{options_of, request_action};
 ghost use Rattle.distinct_arguments.specs.Settings.{chosen_group};
-ghost use Rattle.distinct_commands.specs.Answers.{sketch_of, lines_text, IsLinesText, IsSketchText};
+ghost use Rattle.distinct_commands.specs.Answers.{sketch_of, lines_text, IsCountText, IsLinesText, IsSketchText};
 ghost use Rattle.distinct_commands.specs.Answers.{IsCommandAnswer, WritesAnswer, Performs};
 ghost use Rattle.distinct_inputs.specs.Lists.{names_of};
 ghost use Rattle.distinct_inputs.specs.Images.{in_form};
-ghost use Rattle.distinct_commands.specs.Failing.{IsOfCommand, IsOfOperands, IsOfAnswer, IsOfRequest};
+ghost use Rattle.distinct_commands.specs.Failing.{IsOfCommand, IsOfCount, IsOfOperands, IsOfAnswer, IsOfRequest};
 ghost use Rattle.distinct_commands.specs.Operands.{words_in, Suits, SuitsAction};
 ghost use Rattle.distinct_messages.specs.Failures.{UnreadableIf};
 ghost use Rattle.distinct_inputs.specs.Failures.{chosen_amount, IsOfReading, IsOfSketch, IsUnwritten};
@@ -184,7 +184,7 @@ impl<'a, S: Sources + Drop> Job<'a, S> {
     {
         let (alloc, options) = (self.alloc, self.options);
         match command {
-            Command::Count => self.print_lines(false, console),
+            Command::Count => self.count_inputs(files, console),
             Command::Sketch => self.write_sketch(console),
             Command::Combine(operator) => {
                 if files.is_empty() {
@@ -211,6 +211,26 @@ impl<'a, S: Sources + Drop> Job<'a, S> {
             }
             Command::Sum => self.sum_inputs(),
         }
+    }
+
+    /// What `count` prints of the files of these names: of their lines, or of the groups of images in them.
+    fn count_inputs<C: Console>(self, files: &[String], console: &mut C) -> Result<Vec<u8>, Failure>
+        requires seeded { seed_hash self.seed ≢ 0 }
+        ensures printed { IfSome (S.texts self.entry.inputs.sources) (λ texts.
+            IfOk result (λ v.
+            IsCountText self.entry.options.now.groups (options_of self.entry.options.now) self.entry.seed texts v.items)) }
+        ensures failed { IfErr result (
+            IsOfCount self.entry.options.now.groups self.entry.seed (length files.now)
+            (S.texts self.entry.inputs.sources)) }
+        ensures fallible { IfErr result (UnreadableIf S.may_fail) }
+    {
+        if !self.options.groups {
+            return self.print_lines(false, console);
+        }
+        if files.is_empty() {
+            return Err(Failure::NoFiles);
+        }
+        self.count_unions(console)
     }
 
     /// What `count` prints, or `sketch` writes, of the lines of all sources in turn, by groups if the options say so.

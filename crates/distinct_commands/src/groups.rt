@@ -2,14 +2,15 @@
 ghost use Rattle.std.specs.Prelude.{◌≡◌, ◌≢◌, ◌++◌, ℕ, List, IfOk, IfErr, IfSome, string_bytes};
 ghost use Rattle.sketch_base.specs.Seed.{seed_hash};
 ghost use Rattle.keys_lines.specs.Lines.{lines_of_all};
-ghost use Rattle.keys_groups.specs.Groups.{HasGroups, AreLeft};
-ghost use Rattle.keys_groups.specs.declared.groups.Grouping.{Grouping};
+ghost use Rattle.core_compact.specs.CompactState.{Compact};
+ghost use Rattle.keys_groups.specs.Groups.{HasGroups};
 ghost use Rattle.distinct_arguments.specs.Faults.{options_of};
 ghost use Rattle.distinct_messages.specs.Failures.{UnreadableIf};
 ghost use Rattle.distinct_inputs.specs.Failures.{IsOfReading};
 ghost use Rattle.keys_groups.specs.Files.{AreFilesOf};
 ghost use Rattle.distinct_commands.specs.Groups.{grouping_of, group_text, group_line, groups_text, groups_head};
 ghost use Rattle.distinct_commands.specs.Groups.{group_estimate, chosen_order, counted_names, AreOrdered, IsNextCounted};
+ghost use Rattle.distinct_commands.specs.Groups.{IsGroupsText};
 ghost use Rattle.distinct_commands.specs.Ranked.{AreRanked, first_items, reaches};
 ghost use Rattle.distinct_commands.specs.Texts.{report_by};
 ghost use Rattle.distinct_messages.specs.declared.failure.Failure.TheVariants as failure;
@@ -21,7 +22,9 @@ use crate::show::{chosen_deviations, counted_line, head_of};
 use distinct_arguments::{Form, Options, Order};
 use distinct_inputs::Inputs;
 use distinct_messages::{Console, Failure, out_of_memory};
-use keys_groups::{Group, GroupFile, Grouping, Groups, files_of, group_sources, image_line};
+use keys_groups::{
+    Group, GroupFile, Grouping, Groups, SketchedGroups, files_of, group_sources, image_line,
+};
 use keys_lines::{Hashing, Key};
 use keys_reports::{json_line, report_of, tsv_row};
 use keys_sketches::{ReadError, Sources};
@@ -96,14 +99,16 @@ impl<'a> GroupPrinter<'a> {
 
     /// Takes out the groups that are left up to the first whose estimate is at least that of `--min`, and returns it,
     /// or `None` if there is none. It fails if memory is refused.
-    fn next_counted(self, groups: &mut Groups) -> Result<Option<Group>, Failure>
-        ensures next { (grouping : Grouping) (lines names : List (List ℕ))
-            → AreLeft grouping lines names groups.old
-            → IfOk result (IsNextCounted (options_of self.entry.options.now) grouping lines names groups.new) }
+    fn next_counted<G: SketchedGroups>(self, groups: &mut G) -> Result<Option<Group>, Failure>
+        requires sound { G.is_sound groups.old }
+        ensures next { (sketch : List ℕ → Compact ℕ) (names : List (List ℕ))
+            → G.lists sketch names groups.old
+            → IfOk result (IsNextCounted (G.lists sketch) (options_of self.entry.options.now) sketch names groups.new) }
+        ensures sound { G.is_sound groups.new }
         ensures memory { IfErr result (λ f. f ≡ failure.Memory) }
     {
         for _ in 0..u64::MAX {
-            match groups.next_group() {
+            match groups.take_group() {
                 Ok(Some(group)) => {
                     if is_counted(self.options, &group.sketch) {
                         return Ok(Some(group));
@@ -117,13 +122,14 @@ impl<'a> GroupPrinter<'a> {
     }
 
     /// The lines of groups, one after another. It fails if memory is refused.
-    fn groups_text(self, groups: &mut Groups) -> Result<Vec<u8>, Failure>
-        ensures printed { (grouping : Grouping) (lines names : List (List ℕ))
-            → AreLeft grouping lines names groups.old
+    fn groups_text<G: SketchedGroups>(self, groups: &mut G) -> Result<Vec<u8>, Failure>
+        requires sound { G.is_sound groups.old }
+        ensures printed { (sketch : List ℕ → Compact ℕ) (names : List (List ℕ))
+            → G.lists sketch names groups.old
             → IfOk result (λ v.
-            v.items ≡ groups_text self.entry.images (options_of self.entry.options.now) grouping lines
+            v.items ≡ groups_text self.entry.images (options_of self.entry.options.now) sketch
             (first_items (options_of self.entry.options.now).most
-            (counted_names (options_of self.entry.options.now) grouping lines names))) }
+            (counted_names (options_of self.entry.options.now) sketch names))) }
         ensures memory { IfErr result (λ f. f ≡ failure.Memory) }
     {
         let mut printed = Vec::new(self.alloc);
@@ -166,13 +172,14 @@ impl<'a> GroupPrinter<'a> {
     }
 
     /// The lines of groups, one after another, in the order of their estimates. It fails if memory is refused.
-    fn ranked_groups_text(self, groups: &mut Groups) -> Result<Vec<u8>, Failure>
-        ensures printed { (grouping : Grouping) (lines names : List (List ℕ))
-            → AreLeft grouping lines names groups.old
+    fn ranked_groups_text<G: SketchedGroups>(self, groups: &mut G) -> Result<Vec<u8>, Failure>
+        requires sound { G.is_sound groups.old }
+        ensures printed { (sketch : List ℕ → Compact ℕ) (names : List (List ℕ))
+            → G.lists sketch names groups.old
             → IfOk result (λ v. (ordered : List (List ℕ))
-            × AreRanked (group_estimate (options_of self.entry.options.now) grouping lines)
-            (counted_names (options_of self.entry.options.now) grouping lines names) ordered
-            × (v.items ≡ groups_text self.entry.images (options_of self.entry.options.now) grouping lines
+            × AreRanked (group_estimate (options_of self.entry.options.now) sketch)
+            (counted_names (options_of self.entry.options.now) sketch names) ordered
+            × (v.items ≡ groups_text self.entry.images (options_of self.entry.options.now) sketch
             (first_items (options_of self.entry.options.now).most ordered))) }
         ensures memory { IfErr result (λ f. f ≡ failure.Memory) }
     {
@@ -191,14 +198,15 @@ impl<'a> GroupPrinter<'a> {
     }
 
     /// The lines of groups, one after another, in the order that options choose. It fails if memory is refused.
-    fn ordered_text(self, groups: &mut Groups) -> Result<Vec<u8>, Failure>
-        ensures printed { (grouping : Grouping) (lines names : List (List ℕ))
-            → AreLeft grouping lines names groups.old
+    fn ordered_text<G: SketchedGroups>(self, groups: &mut G) -> Result<Vec<u8>, Failure>
+        requires sound { G.is_sound groups.old }
+        ensures printed { (sketch : List ℕ → Compact ℕ) (names : List (List ℕ))
+            → G.lists sketch names groups.old
             → IfOk result (λ v. (ordered : List (List ℕ))
             × AreOrdered (chosen_order (options_of self.entry.options.now))
-            (group_estimate (options_of self.entry.options.now) grouping lines)
-            (counted_names (options_of self.entry.options.now) grouping lines names) ordered
-            × (v.items ≡ groups_text self.entry.images (options_of self.entry.options.now) grouping lines
+            (group_estimate (options_of self.entry.options.now) sketch)
+            (counted_names (options_of self.entry.options.now) sketch names) ordered
+            × (v.items ≡ groups_text self.entry.images (options_of self.entry.options.now) sketch
             (first_items (options_of self.entry.options.now).most ordered))) }
         ensures memory { IfErr result (λ f. f ≡ failure.Memory) }
     {
@@ -222,16 +230,12 @@ impl<'a> GroupPrinter<'a> {
 
     /// The lines of groups, in the order that options choose, after the head of a table if there is to be one. It
     /// fails if memory is refused.
-    pub fn table(self, groups: &mut Groups) -> Result<Vec<u8>, Failure>
-        ensures printed { (grouping : Grouping) (lines names : List (List ℕ))
-            → AreLeft grouping lines names groups.old
-            → IfOk result (λ v. (ordered : List (List ℕ))
-            × AreOrdered (chosen_order (options_of self.entry.options.now))
-            (group_estimate (options_of self.entry.options.now) grouping lines)
-            (counted_names (options_of self.entry.options.now) grouping lines names) ordered
-            × (v.items ≡ groups_head self.entry.images (options_of self.entry.options.now)
-            ++ groups_text self.entry.images (options_of self.entry.options.now) grouping lines
-            (first_items (options_of self.entry.options.now).most ordered))) }
+    pub fn table<G: SketchedGroups>(self, groups: &mut G) -> Result<Vec<u8>, Failure>
+        requires sound { G.is_sound groups.old }
+        ensures printed { (sketch : List ℕ → Compact ℕ) (names : List (List ℕ))
+            → G.lists sketch names groups.old
+            → IfOk result (λ v.
+            IsGroupsText self.entry.images (options_of self.entry.options.now) sketch names v.items) }
         ensures memory { IfErr result (λ f. f ≡ failure.Memory) }
     {
         let head = self.head()?;

@@ -1,16 +1,18 @@
-//! What `union` writes of images by groups.
+//! What `union` writes and `count` prints of images by groups.
 ghost use Rattle.std.specs.Prelude.{◌≡◌, ◌≢◌, ◌≤◌, ◌<◌, ◌^◌, ℕ, List, Option, IfOk, IfErr, IfSome, IfNone, Bool};
 ghost use Rattle.sketch_base.specs.Seed.{seed_hash};
 ghost use Rattle.keys_lines.specs.Lines.{lines_of_all};
-ghost use Rattle.keys_groups.specs.United.{HasFirstFlawed, IsUnitedText};
+ghost use Rattle.keys_groups.specs.United.{AreSound, HasFirstFlawed, HasUnions, IsUnitedText};
 ghost use Rattle.distinct_arguments.specs.Faults.{options_of};
 ghost use Rattle.distinct_messages.specs.Failures.{UnreadableIf};
 ghost use Rattle.distinct_inputs.specs.Failures.{unites_groups, IsOfGroups, ReportsFlawed};
+ghost use Rattle.distinct_commands.specs.Groups.{IsUnitedCount};
 
+use crate::groups::GroupPrinter;
 use crate::job::Job;
 use distinct_arguments::{Operator, Options};
 use distinct_messages::{Coarser, Console, Failure, Remark, display_name, out_of_memory};
-use keys_groups::{LineFlaw, UniteError, unite_groups, united_text};
+use keys_groups::{LineFlaw, UniteError, UnitedGroups, unite_groups, united_text};
 use keys_sketches::Sources;
 use std::alloc::Global;
 
@@ -72,12 +74,13 @@ fn remark_coarser<C: Console>(name: &str, retained: u64, lg_k: u8, console: &mut
 }
 
 impl<'a, S: Sources + Drop> Job<'a, S> {
-    /// A line for each group of all lines, with the image of the union of its images. It fails if memory is refused,
-    /// a file can't be read, or a line isn't that of a group with an image.
-    pub fn unite_inputs<C: Console>(self, console: &mut C) -> Result<Vec<u8>, Failure>
+    /// The groups of all lines, each with the union of its images. It fails if memory is refused, a file can't be
+    /// read, or a line isn't that of a group with an image.
+    fn read_unions<C: Console>(self, console: &mut C) -> Result<UnitedGroups, Failure>
         requires seeded { seed_hash self.seed ≢ 0 }
         ensures united { IfSome (S.texts self.entry.inputs.sources) (λ texts.
-            IfOk result (λ v. IsUnitedText self.entry.seed self.entry.options.now.lg_k (lines_of_all texts) v.items)) }
+            IfOk result (HasUnions self.entry.seed self.entry.options.now.lg_k (lines_of_all texts))) }
+        ensures sound { IfOk result AreSound }
         ensures failed { IfErr result (IsOfGroups self.entry.seed (S.texts self.entry.inputs.sources)) }
         ensures fallible { IfErr result (UnreadableIf S.may_fail) }
     {
@@ -86,13 +89,9 @@ impl<'a, S: Sources + Drop> Job<'a, S> {
         let names = inputs.names_left();
         match unite_groups(alloc, seed, options.lg_k, &mut inputs) {
             Ok(groups) => {
-                let mut groups = groups;
                 let name = name_at(names, groups.most_source());
                 remark_coarser(name, groups.most_retained(), options.lg_k, console);
-                match united_text(alloc, &mut groups) {
-                    Ok(text) => Ok(text),
-                    Err(error) => Err(out_of_memory(error)),
-                }
+                Ok(groups)
             }
             Err(UniteError::Failed(error)) => Err(inputs.read_failure(alloc, error)),
             Err(UniteError::Flawed(line, flaw)) => Err(line_failure(
@@ -103,5 +102,41 @@ impl<'a, S: Sources + Drop> Job<'a, S> {
             )),
             Err(UniteError::Refused(error)) => Err(out_of_memory(error)),
         }
+    }
+
+    /// A line for each group of all lines, with the image of the union of its images. It fails if memory is refused,
+    /// a file can't be read, or a line isn't that of a group with an image.
+    pub fn unite_inputs<C: Console>(self, console: &mut C) -> Result<Vec<u8>, Failure>
+        requires seeded { seed_hash self.seed ≢ 0 }
+        ensures united { IfSome (S.texts self.entry.inputs.sources) (λ texts.
+            IfOk result (λ v. IsUnitedText self.entry.seed self.entry.options.now.lg_k (lines_of_all texts) v.items)) }
+        ensures failed { IfErr result (IsOfGroups self.entry.seed (S.texts self.entry.inputs.sources)) }
+        ensures fallible { IfErr result (UnreadableIf S.may_fail) }
+    {
+        let alloc = self.alloc;
+        let mut groups = self.read_unions(console)?;
+        match united_text(alloc, &mut groups) {
+            Ok(text) => Ok(text),
+            Err(error) => Err(out_of_memory(error)),
+        }
+    }
+
+    /// What `count` prints of the groups of all lines, each with the union of its images. It fails as `unite_inputs`
+    /// does.
+    pub fn count_unions<C: Console>(self, console: &mut C) -> Result<Vec<u8>, Failure>
+        requires seeded { seed_hash self.seed ≢ 0 }
+        ensures counted { IfSome (S.texts self.entry.inputs.sources) (λ texts.
+            IfOk result (λ v. IsUnitedCount (options_of self.entry.options.now) self.entry.seed texts v.items)) }
+        ensures failed { IfErr result (IsOfGroups self.entry.seed (S.texts self.entry.inputs.sources)) }
+        ensures fallible { IfErr result (UnreadableIf S.may_fail) }
+    {
+        let (alloc, options) = (self.alloc, self.options);
+        let mut groups = self.read_unions(console)?;
+        let printer = GroupPrinter {
+            alloc,
+            options,
+            images: false,
+        };
+        printer.table(&mut groups)
     }
 }

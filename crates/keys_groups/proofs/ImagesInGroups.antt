@@ -3,6 +3,7 @@ use Rattle.std.proofs.Common.{ℕ, ◌≡◌, ◌<◌, length, arith, Bool, true
 use Rattle.std.specs.Prelude.{◌⊎◌, ⊤, IsSome, IfSome}
 use Rattle.std.specs.List.{filter, AllByRecursion}
 use Rattle.std.specs.List.Sorted.{IsStrictlySortedBy}
+use Rattle.std.specs.Option.{option_map_or}
 use Rattle.std.specs.Str.{bytes_eq}
 use Rattle.std.specs.Cmp.Lexicographic.{slice_cmp, bytes_decides, nat_list_eq_equiv}
 use Rattle.std.specs.Ordering.{nat_cmp}
@@ -10,14 +11,15 @@ use Rattle.std.specs.Map.{keys_of}
 use Rattle.std.specs.BTreeMap.{BTreeMap}
 use Rattle.std.proofs.lemmas.List.{map-append}
 use Rattle.sketch_base.specs.Seed.{seed_hash}
-use Rattle.core_compact.specs.CompactState.{Compact}
+use Rattle.core_compact.specs.CompactState.{Compact, ordered_sketch}
 use Rattle.core_operators.specs.Union.{Union}
 use Rattle.theta_sketches.specs.Image.{IsReadable}
-use Rattle.keys_sketches.specs.Keys.{IsAmong}
-use Rattle.keys_sketches.specs.Shards.{AreRead}
+use Rattle.keys_sketches.specs.Keys.{IsAmong, sketch_of_value}
+use Rattle.keys_sketches.specs.Shards.{united, values_of_sketches, AreRead}
 use Rattle.keys_sketches.specs.Unions.{IsReady, HasUnited}
 use Rattle.keys_groups.specs.Tabs.{before_tab}
-use Rattle.keys_groups.specs.United.{image_in, images_in, AreNames, union_at, IsGroupUnion, IsUniting, AreReady, SetsUnion, UpdatesUnion, BeginsUnion, AreUnited}
+use Rattle.keys_groups.specs.United.{image_in, images_in, AreNames, union_at, IsGroupUnion, IsUniting, AreReady, SetsUnion, UpdatesUnion, BeginsUnion}
+use Rattle.keys_groups.specs.United.{sketch_of_union, IsUnitedSketch, AreUnionSketches, AreUnionsOf}
 use Rattle.keys_groups.specs.Names.{texts_of}
 use Rattle.keys_groups.proofs.Entries.{value_at, same_itself, texts_ascend, among_texts, has_value, not_below}
 use Rattle.keys_groups.proofs.LinesInGroups.{filter_more}
@@ -97,6 +99,19 @@ united_read : {P : Type 0} (seed lg_k : ℕ) (images : List (List ℕ)) (image :
 united_read seed lg_k images image None is = absurd (some_more images image is)
 united_read seed lg_k images image (Some u) is = last_image seed images image is.1.sketches is.1.are_read
 
+module _ {P : Type 0} (seed lg_k : ℕ) where
+  -- the sketch of a union; that of no images if there is none
+  abbrev sketch_or_none : Option (Union ℕ P) → Compact ℕ
+  sketch_or_none o = option_map_or sketch_of_union o (sketch_of_value seed (united lg_k []))
+
+  sketch_is : (images : List (List ℕ)) (o : Option (Union ℕ P)) → IsGroupUnion seed lg_k images o → IsUnitedSketch seed lg_k images (sketch_or_none o)
+  sketch_is images None none = subst (λ (is : List (List ℕ)). IsUnitedSketch seed lg_k is (sketch_of_value seed (united lg_k []))) (sym none) ([], tt, refl)
+  sketch_is images (Some u) is = (
+    is.1.sketches,
+    is.1.are_read,
+    ap (λ v. ordered_sketch v u.seed_hash) is.1.value ∙ ap (ordered_sketch (united lg_k (values_of_sketches is.1.sketches))) (ap (λ (w : Union ℕ P). w.seed_hash) is.1.made),
+  )
+
 module _ {A P : Type 0} (seed lg_k : ℕ) where
   -- the union of one group was set
   uniting_more : (lines : List (List ℕ)) (line : List ℕ) (m n : BTreeMap (Vec ℕ A) (Union ℕ P)) (w : Union ℕ P) → IsUniting seed lg_k lines m → SetsUnion (before_tab line) w m n →
@@ -146,14 +161,23 @@ module _ {A P : Type 0} (seed lg_k : ℕ) where
 
   -- ---- all groups in their order
 
-  united_entries : (lines : List (List ℕ)) (entries : List (Vec ℕ A × Union ℕ P)) → EachEntry (λ name o. IsGroupUnion seed lg_k (images_in name lines) o) entries → AreUnited seed lg_k lines (texts_of entries) entries
-  united_entries lines [] each = tt
-  united_entries lines (entry ∷ entries) each = (refl, each.0.1, united_entries lines entries each.1)
+  -- the sketch of the group of a name
+  abbrev sketch_at : BTreeMap (Vec ℕ A) (Union ℕ P) → List ℕ → Compact ℕ
+  sketch_at m name = sketch_or_none seed lg_k (union_at m name)
+
+  listed_entries : (m : BTreeMap (Vec ℕ A) (Union ℕ P)) (entries : List (Vec ℕ A × Union ℕ P)) → EachEntry (λ name o. o ≡ union_at m name) entries → AreUnionsOf (sketch_at m) (texts_of entries) entries
+  listed_entries m [] each = tt
+  listed_entries m (entry ∷ entries) each = (
+    refl,
+    ap (λ (o : Option (Union ℕ P)). sketch_or_none seed lg_k o) each.0,
+    listed_entries m entries each.1,
+  )
 
   pub all_unions : (lines : List (List ℕ)) (m : BTreeMap (Vec ℕ A) (Union ℕ P)) → IsStrictlySortedBy (λ x y. slice_cmp nat_cmp x.items y.items) (keys_of m.entries) → IsUniting seed lg_k lines m →
-      (names : List (List ℕ)) × AreNames lines names × AreUnited seed lg_k lines names m.entries
+      (names : List (List ℕ)) × (sketch : List ℕ → Compact ℕ) × AreNames lines names × AreUnionSketches seed lg_k lines sketch × AreUnionsOf sketch names m.entries
   all_unions lines m ascend uniting = (
     texts_of m.entries,
+    sketch_at m,
     record {
       ascending = texts_ascend m.entries ascend;
       same = (
@@ -161,7 +185,8 @@ module _ {A P : Type 0} (seed lg_k : ℕ) where
         λ name among. among_texts name m.entries (some_union seed lg_k (images_in name lines) (union_at m name) (uniting name) (has_image name lines among)),
       );
     },
-    united_entries lines m.entries (each_entry (λ name o. IsGroupUnion seed lg_k (images_in name lines) o) m.entries ascend (λ name some. uniting name)),
+    λ name. sketch_is seed lg_k (images_in name lines) (union_at m name) (uniting name),
+    listed_entries m m.entries (each_entry (λ name o. o ≡ union_at m name) m.entries ascend (λ name some. refl)),
   )
 
   sound_entries : (entries : List (Vec ℕ A × Union ℕ P)) → EachEntry (λ name o. IfSome o (IsReady seed)) entries → AllByRecursion (λ entry. IsReady seed entry.1) entries
@@ -171,22 +196,19 @@ module _ {A P : Type 0} (seed lg_k : ℕ) where
   pub all_sound : (m : BTreeMap (Vec ℕ A) (Union ℕ P)) → IsStrictlySortedBy (λ x y. slice_cmp nat_cmp x.items y.items) (keys_of m.entries) → AreReady seed m → AllByRecursion (λ entry. IsReady seed entry.1) m.entries
   all_sound m ascend ready = sound_entries m.entries (each_entry (λ name o. IfSome o (IsReady seed)) m.entries ascend (λ name some. ready name))
 
-  -- the first of the groups that are left
-  pub first_united : (lines names : List (List ℕ)) (old new : List (Vec ℕ A × Union ℕ P)) (entry : Vec ℕ A × Union ℕ P) → old ≡ entry ∷ new → AreUnited seed lg_k lines names old →
-      (others : List (List ℕ)) × (names ≡ entry.0.items ∷ others) × HasUnited seed lg_k (images_in entry.0.items lines) entry.1 × AreUnited seed lg_k lines others new
-  first_united lines [] old new entry parted united = absurd (subst (AreUnited seed lg_k lines []) parted united)
-  first_united lines (name ∷ names) old new entry parted united =
-      let all : AreUnited seed lg_k lines (name ∷ names) (entry ∷ new) = subst (AreUnited seed lg_k lines (name ∷ names)) parted united in (
-        names,
-        ap (λ n. n ∷ names) all.0,
-        subst (λ n. HasUnited seed lg_k (images_in n lines) entry.1) all.0 all.1,
-        all.2,
-      )
-
-  pub none_united : (lines names : List (List ℕ)) (entries : List (Vec ℕ A × Union ℕ P)) → (0 < length entries → ⊥) → AreUnited seed lg_k lines names entries → names ≡ []
-  none_united lines [] entries none united = refl
-  none_united lines (name ∷ names) [] none united = absurd united
-  none_united lines (name ∷ names) (entry ∷ entries) none united = absurd (none (omega arith))
-
   pub first_sound : (old new : List (Vec ℕ A × Union ℕ P)) (entry : Vec ℕ A × Union ℕ P) → old ≡ entry ∷ new → AllByRecursion (λ e. IsReady seed e.1) old → IsReady seed entry.1 × AllByRecursion (λ e. IsReady seed e.1) new
   first_sound old new entry parted sound = subst (λ entries. AllByRecursion (λ (e : Vec ℕ A × Union ℕ P). IsReady seed e.1) entries) parted sound
+
+-- the first of the groups that are left
+module _ {A P : Type 0} (sketch : List ℕ → Compact ℕ) where
+  pub first_listed : (names : List (List ℕ)) (old new : List (Vec ℕ A × Union ℕ P)) (entry : Vec ℕ A × Union ℕ P) → old ≡ entry ∷ new → AreUnionsOf sketch names old →
+      (others : List (List ℕ)) × (names ≡ entry.0.items ∷ others) × (sketch_of_union entry.1 ≡ sketch entry.0.items) × AreUnionsOf sketch others new
+  first_listed [] old new entry parted listed = absurd (subst (AreUnionsOf sketch []) parted listed)
+  first_listed (name ∷ names) old new entry parted listed =
+      let all : AreUnionsOf sketch (name ∷ names) (entry ∷ new) = subst (AreUnionsOf sketch (name ∷ names)) parted listed in
+      (names, ap (λ n. n ∷ names) all.0, all.1 ∙ ap sketch all.0, all.2)
+
+  pub none_listed : (names : List (List ℕ)) (entries : List (Vec ℕ A × Union ℕ P)) → (0 < length entries → ⊥) → AreUnionsOf sketch names entries → names ≡ []
+  none_listed [] entries none listed = refl
+  none_listed (name ∷ names) [] none listed = absurd listed
+  none_listed (name ∷ names) (entry ∷ entries) none listed = absurd (none (omega arith))

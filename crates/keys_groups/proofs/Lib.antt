@@ -4,6 +4,7 @@ pub mod LinesInGroups
 pub mod Entries
 pub mod Marks
 pub mod NamedEntries
+pub mod NamedLines
 pub mod ReadInTurn
 pub mod TakenLines
 pub mod LastTabs

@@ -15,12 +15,15 @@ use Rattle.std.proofs.lemmas.List.Elements.{All-head, All-tail}
 use Rattle.std.proofs.lemmas.List.Sorted.{IsPermutation-map, IsPermutation-sym, All-permutation, Contains-permutation}
 use Rattle.std.proofs.lemmas.Map.Keys.{IsDistinct-IsPermutation, apart_from_distinct, sorted_from_all_adjacent}
 use Rattle.std.proofs.lemmas.Map.Text.{is_eq-slice_cmp}
+use Rattle.core_compact.specs.CompactState.{Compact}
 use Rattle.core_state.specs.Updatable.{Updatable}
 use Rattle.keys_lines.specs.Keys.{key_of}
 use Rattle.keys_lines.specs.Lines.{lines_of, lines_of_all}
 use Rattle.keys_lines.specs.declared.key.Hashing.{Hashing}
 use Rattle.keys_sketches.specs.Keys.{LineState, IsAmong, line_state, new_state, with_line, with_lines}
-use Rattle.keys_groups.specs.Groups.{lines_in, AreGroups, AreSketched}
+use Rattle.keys_groups.specs.Groups.{lines_in, AreGroups, AreSketched, group_sketch, IsNext, IsFirst, ListsLines}
+use Rattle.keys_groups.specs.declared.groups.Group.{Group}
+use Rattle.keys_groups.specs.declared.groups.Groups.{Groups}
 use Rattle.keys_groups.specs.States.{state_at, Changes, UpdatesGroup, AddsLine, state_of_lines, IsGrouped}
 use Rattle.keys_groups.specs.declared.groups.Grouping.{Grouping}
 use Rattle.keys_groups.specs.Names.{texts_of, NameIndex, IsIndex, AreNamed}
@@ -262,3 +265,9 @@ module _ (grouping : Grouping) where
     none_left lines [] entries none sketched = refl
     none_left lines (name ∷ names) [] none sketched = absurd sketched
     none_left lines (name ∷ names) (entry ∷ entries) none sketched = absurd (none (omega arith))
+
+-- the first group of lines, by the sketches of all
+pub next_listed : (grouping : Grouping) (lines : List (List ℕ)) (sketch : List ℕ → Compact ℕ) → sketch ≡ group_sketch grouping lines → (names : List (List ℕ)) (new : Groups) (found : Option Group) → IsNext grouping lines names new found → IsFirst (ListsLines sketch) sketch names new found
+next_listed grouping lines sketch same names new None is = is
+next_listed grouping lines sketch same names new (Some group) is =
+    (is.0, is.1, is.2 ∙ ap (λ (f : List ℕ → Compact ℕ). f group.name.items) (sym same), (grouping, lines, same, is.3))

@@ -1,21 +1,21 @@
 -- Images that are united line by line, and lines that are written one after another.
-use Rattle.std.proofs.Common.{ℕ, ◌≡◌, ◌+◌, ◌-◌, ◌^◌, min, length, true, false, List, [], ◌∷◌, ◌++◌, Option, Some, None, Vec, refl, sym, ap, ◌∙◌, subst, inl, inr, arith, append_assoc, append-nil, length-append}
+use Rattle.std.proofs.Common.{ℕ, ◌≡◌, ◌+◌, ◌-◌, ◌^◌, min, length, true, false, List, [], ◌∷◌, ◌++◌, Option, Some, None, Vec, refl, sym, ap, ◌∙◌, subst, inl, inr, arith, append_assoc, length-append}
 use Rattle.std.specs.Prelude.{IfSome}
 use Rattle.std.specs.Option.{option_map}
 use Rattle.std.specs.BTreeMap.{BTreeMap}
 use Rattle.sketch_base.specs.Seed.{seed_hash}
 use Rattle.sketch_base.specs.declared.error.ErrorKind.{ErrorKind}
+use Rattle.core_compact.specs.CompactState.{Compact}
 use Rattle.core_operators.specs.Union.{Union}
-use Rattle.theta_sketches.specs.Image.{IsReadable}
+use Rattle.theta_sketches.specs.Image.{IsReadable, written}
 use Rattle.keys_lines.specs.Lines.{lines_of, lines_of_all}
 use Rattle.keys_sketches.specs.Hex.{bytes_of_hex}
 use Rattle.keys_sketches.specs.Keys.{IsAmong}
 use Rattle.keys_sketches.specs.Sources.{GivesNext, Continues}
-use Rattle.keys_sketches.specs.Unions.{IsUnitedImage}
 use Rattle.keys_groups.specs.Groups.{without_lf}
 use Rattle.keys_groups.specs.Reading.{ReadsLine, ContinuesLines}
 use Rattle.keys_groups.specs.Tabs.{has_tab, behind_tab}
-use Rattle.keys_groups.specs.United.{image_line, image_in, images_in, AreUnitedLines, IsUniting, is_followed, IsFlawed, IsFlawless, AreFlawless, AreAdded}
+use Rattle.keys_groups.specs.United.{image_in, sketched_text, AreUnionSketches, AreUnitedLines, IsUniting, is_followed, IsFlawed, IsFlawless, AreFlawless, AreAdded}
 use Rattle.keys_groups.specs.United.{IsFirstFlawed, HasFirstFlawed, IsOfLine, IsOfLines, ReportsFirst, IsUniteError}
 use Rattle.keys_groups.specs.declared.united.LineFlaw.{LineFlaw}
 use Rattle.keys_groups.specs.declared.united.LineFlaw.TheVariants.{NoTab, NoHex, NoImage}
@@ -126,18 +126,9 @@ first_at seed passed line (Some all) (Flawed number flaw) is behind = record {
 
 -- ---- lines that are written one after another
 
-module _ (seed lg_k : ℕ) (lines : List (List ℕ)) where
-  -- what is written behind these lines completes them
-  abbrev pub Completes : (names left : List (List ℕ)) (text : List ℕ) → Type 0
-  Completes names left text = (rest : List ℕ) → AreUnitedLines seed lg_k lines left rest → AreUnitedLines seed lg_k lines names (text ++ rest)
-
-  -- one line more
-  pub line_written : (names left others : List (List ℕ)) (text name image line : List ℕ) → Completes names left text → left ≡ name ∷ others → IsUnitedImage seed lg_k (images_in name lines) image → line ≡ image_line name image → Completes names others (text ++ line)
-  line_written names left others text name image line so_far parted united is rest written =
-      subst (AreUnitedLines seed lg_k lines names) (sym (append_assoc text line rest))
-      (so_far (line ++ rest) (subst (λ ns. AreUnitedLines seed lg_k lines ns (line ++ rest)) (sym parted) (image, rest, united, ap (λ l. l ++ rest) is, written)))
-
-  -- all lines
-  pub all_written : (names left : List (List ℕ)) (text : List ℕ) → Completes names left text → left ≡ [] → AreUnitedLines seed lg_k lines names text
-  all_written names left text so_far none =
-      subst (AreUnitedLines seed lg_k lines names) (append-nil text) (so_far [] (subst (λ ns. AreUnitedLines seed lg_k lines ns []) (sym none) refl))
+-- the lines of names are the lines of the groups of images, if the sketches are the unions of these
+pub united_lines : (seed lg_k : ℕ) (lines : List (List ℕ)) (sketch : List ℕ → Compact ℕ) (names : List (List ℕ)) (out : List ℕ) → AreUnionSketches seed lg_k lines sketch → out ≡ sketched_text sketch names → AreUnitedLines seed lg_k lines names out
+united_lines seed lg_k lines sketch [] out are is = is
+united_lines seed lg_k lines sketch (name ∷ names) out are is =
+    let one = are name in
+    (written (sketch name), sketched_text sketch names, (one.0, one.1, ap written one.2), is, united_lines seed lg_k lines sketch names (sketched_text sketch names) are refl)

@@ -47,14 +47,21 @@ abbrev pub HasGroups : Grouping → (lines : List (List ℕ)) → Groups → Typ
 HasGroups grouping lines groups =
     (names : List (List ℕ)) × AreGroups grouping.by lines names × AreLeft grouping lines names groups
 
--- the first group that was left, and the others are left now; there is none only if none was left
+-- The first of the groups that were left, with its sketch, and the others are left now; there is none only if none was left.
+abbrev pub IsFirst : {G : Type 0} → (lists : (names : List (List ℕ)) → G → Type 0) → (sketch : List ℕ → Compact ℕ) → (names : List (List ℕ)) →
+    (new : G) → Option Group → Type 0
+IsFirst lists sketch names new None = names ≡ []
+IsFirst lists sketch names new (Some group) =
+    (others : List (List ℕ)) × (names ≡ group.name.items ∷ others) × (group.sketch ≡ sketch group.name.items) × lists others new
+
+-- .. of groups of lines
 abbrev pub IsNext : Grouping → (lines names : List (List ℕ)) → (new : Groups) → Option Group → Type 0
-IsNext grouping lines names new None = names ≡ []
-IsNext grouping lines names new (Some group) =
-    (others : List (List ℕ))
-    × (names ≡ group.name.items ∷ others)
-    × (group.sketch ≡ group_sketch grouping lines group.name.items)
-    × AreLeft grouping lines others new
+IsNext grouping lines names new group = IsFirst (AreLeft grouping lines) (group_sketch grouping lines) names new group
+
+-- groups of lines that are left have these names and these sketches
+abbrev pub ListsLines : (sketch : List ℕ → Compact ℕ) → (names : List (List ℕ)) → Groups → Type 0
+ListsLines sketch names groups =
+    (grouping : Grouping) × (lines : List (List ℕ)) × (sketch ≡ group_sketch grouping lines) × AreLeft grouping lines names groups
 
 -- a text without the LF (10) at its end, if it has one
 abbrev pub without_lf : List ℕ → List ℕ

@@ -12,17 +12,19 @@ use Rattle.std.specs.Str.{bytes_eq}
 use Rattle.sketch_base.specs.Seed.{seed_hash}
 use Rattle.sketch_base.specs.declared.error.ErrorKind.{ErrorKind}
 use Rattle.sketch_base.specs.declared.error.ErrorKind.TheVariants.{OutOfMemory}
-use Rattle.core_operators.specs.Union.{Union}
+use Rattle.core_compact.specs.CompactState.{Compact, ordered_sketch}
+use Rattle.core_laws.specs.Entries.{hash_key}
+use Rattle.core_operators.specs.Union.{Union, union_value}
 use Rattle.theta_sketches.specs.Image.{IsReadable, written}
 use Rattle.keys_lines.specs.Lines.{lines_of, lines_of_all}
-use Rattle.keys_sketches.specs.Keys.{HaveSameLines}
+use Rattle.keys_sketches.specs.Keys.{HaveSameLines, sketch_of_value}
+use Rattle.keys_sketches.specs.Shards.{united, values_of_sketches, AreRead}
 use Rattle.keys_sketches.specs.Header.{flaw_of, image_length}
 use Rattle.keys_sketches.specs.Hex.{hex_of, bytes_of_hex}
 use Rattle.keys_sketches.specs.Unions.{IsReady, HasUnited, IsUnitedImage}
 use Rattle.keys_groups.specs.Tabs.{has_tab, before_tab, behind_tab}
 use Rattle.keys_groups.specs.Groups.{AreGroups, group_sketch}
 use Rattle.keys_groups.specs.declared.groups.Grouping.{Grouping}
-use Rattle.keys_groups.specs.declared.united.UnitedGroup.{UnitedGroup}
 use Rattle.keys_groups.specs.declared.united.UnitedGroups.{UnitedGroups}
 use Rattle.keys_groups.specs.declared.united.LineFlaw.{LineFlaw}
 use Rattle.keys_groups.specs.declared.united.LineFlaw.TheVariants.{NoTab, NoHex, NoImage}
@@ -51,6 +53,19 @@ pub record AreNames (lines names : List (List ℕ)) : Type 0 where
   pub ascending : IsStrictlySortedBy (slice_cmp nat_cmp) names
   pub same : HaveSameLines names (map before_tab lines)
 
+-- the sketch of the union of the sketches in images
+abbrev pub IsUnitedSketch : (seed lg_k : ℕ) → (images : List (List ℕ)) → Compact ℕ → Type 0
+IsUnitedSketch seed lg_k images s =
+    (sketches : List (Compact ℕ)) × AreRead seed images sketches × (s ≡ sketch_of_value seed (united lg_k (values_of_sketches sketches)))
+
+-- each name has the sketch of the union of the images of its group
+abbrev pub AreUnionSketches : (seed lg_k : ℕ) → (lines : List (List ℕ)) → (sketch : List ℕ → Compact ℕ) → Type 0
+AreUnionSketches seed lg_k lines sketch = (name : List ℕ) → IsUnitedSketch seed lg_k (images_in name lines) (sketch name)
+
+-- a line for each name, with the image of its sketch
+abbrev pub sketched_text : (sketch : List ℕ → Compact ℕ) → (names : List (List ℕ)) → List ℕ
+sketched_text sketch names = flat_map (λ name. image_line name (written (sketch name))) names
+
 -- a line for each name, with the image of the union of the images of its group
 abbrev pub AreUnitedLines : (seed lg_k : ℕ) → (lines names : List (List ℕ)) → List ℕ → Type 0
 AreUnitedLines seed lg_k lines [] out = out ≡ []
@@ -66,7 +81,7 @@ IsUnitedText seed lg_k lines out = (names : List (List ℕ)) × AreNames lines n
 abbrev pub IsSketchedText : Grouping → (lines : List (List ℕ)) → List ℕ → Type 0
 IsSketchedText grouping lines out =
     (names : List (List ℕ)) × AreGroups grouping.by lines names
-    × (out ≡ flat_map (λ name. image_line name (written (group_sketch grouping lines name))) names)
+    × (out ≡ sketched_text (group_sketch grouping lines) names)
 
 -- the same grouping, with sketches of 2^own nominal entries
 abbrev pub of_size : Grouping → (own : ℕ) → Grouping
@@ -126,31 +141,31 @@ BeginsUnion {A} {P} seed lg_k name image old new =
 
 -- ---- groups once all images are united
 
--- entries are groups of these names, each with the union of its own images
-abbrev pub AreUnited : {A P : Type 0} → (seed lg_k : ℕ) → (lines names : List (List ℕ)) → List (Vec ℕ A × Union ℕ P) → Type 0
-AreUnited seed lg_k lines [] [] = ⊤
-AreUnited seed lg_k lines (name ∷ names) (entry ∷ entries) =
-    (name ≡ entry.0.items) × HasUnited seed lg_k (images_in name lines) entry.1 × AreUnited seed lg_k lines names entries
-AreUnited seed lg_k lines [] (entry ∷ entries) = ⊥
-AreUnited seed lg_k lines (name ∷ names) [] = ⊥
+-- the sketch of a union, ordered
+abbrev pub sketch_of_union : {P : Type 0} → Union ℕ P → Compact ℕ
+sketch_of_union u = ordered_sketch (union_value hash_key u) u.seed_hash
+
+-- entries are groups of these names, each with a union that has the sketch of its name
+abbrev pub AreUnionsOf : {A P : Type 0} → (sketch : List ℕ → Compact ℕ) → (names : List (List ℕ)) → List (Vec ℕ A × Union ℕ P) → Type 0
+AreUnionsOf sketch [] [] = ⊤
+AreUnionsOf sketch (name ∷ names) (entry ∷ entries) =
+    (name ≡ entry.0.items) × (sketch_of_union entry.1 ≡ sketch name) × AreUnionsOf sketch names entries
+AreUnionsOf sketch [] (entry ∷ entries) = ⊥
+AreUnionsOf sketch (name ∷ names) [] = ⊥
+
+-- groups of images that are left have these names and these sketches
+abbrev pub ListsUnions : (sketch : List ℕ → Compact ℕ) → (names : List (List ℕ)) → UnitedGroups → Type 0
+ListsUnions sketch names groups = AreUnionsOf sketch names groups.map.entries
 
 -- these are the groups of lines, each with the union of its own images
 abbrev pub HasUnions : (seed lg_k : ℕ) → (lines : List (List ℕ)) → UnitedGroups → Type 0
 HasUnions seed lg_k lines groups =
-    (names : List (List ℕ)) × AreNames lines names × AreUnited seed lg_k lines names groups.map.entries
+    (names : List (List ℕ)) × (sketch : List ℕ → Compact ℕ) × AreNames lines names × AreUnionSketches seed lg_k lines sketch
+    × ListsUnions sketch names groups
 
 -- each union has a result: it is of some seed, and hasn't failed
 abbrev pub AreSound : UnitedGroups → Type 0
 AreSound groups = (seed : ℕ) × AllByRecursion (λ entry. IsReady seed entry.1) groups.map.entries
-
--- the first group that was left, and the others are left now; there is none only if none was left
-abbrev pub IsNextUnited : (seed lg_k : ℕ) → (lines names : List (List ℕ)) → (new : UnitedGroups) → Option UnitedGroup → Type 0
-IsNextUnited seed lg_k lines names new None = names ≡ []
-IsNextUnited seed lg_k lines names new (Some group) =
-    (others : List (List ℕ))
-    × (names ≡ group.name.items ∷ others)
-    × IsUnitedImage seed lg_k (images_in group.name.items lines) group.image.items
-    × AreUnited seed lg_k lines others new.map.entries
 
 -- ---- lines that can't be united
 

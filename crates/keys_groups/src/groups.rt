@@ -15,6 +15,7 @@ ghost use Rattle.keys_groups.specs.declared.groups.Grouping.{Grouping};
 
 use crate::fields::{key_hash, key_in};
 use crate::names::NameIndex;
+use crate::sketched::SketchedGroups;
 use keys_lines::{Hashing, Key};
 use keys_sketches::trim_and_compact;
 use sketch_base::Error;
@@ -180,6 +181,19 @@ impl Groups {
         let mut sketch = sketch;
         let sketch = trim_and_compact(&mut sketch)?;
         Ok(Some(Group { name, sketch }))
+    }
+}
+
+impl SketchedGroups for Groups {
+    ghost use Rattle.std.specs.Prelude.{⊤};
+    ghost use Rattle.keys_groups.specs.Groups.{ListsLines};
+
+    ghost lists = { ListsLines };
+
+    ghost is_sound = { λ _. ⊤ };
+
+    fn take_group(&mut self) -> Result<Option<Group>, Error> {
+        self.next_group()
     }
 }
 

@@ -12,13 +12,13 @@ ghost use Rattle.core_operators.specs.Union.{empty_union};
 ghost use Rattle.theta_sketches.specs.Image.{IsReadable};
 ghost use Rattle.keys_groups.specs.Tabs.{has_tab, before_tab, behind_tab};
 ghost use Rattle.keys_groups.specs.United.{image_line, image_in, IsUniting, AreReady, UpdatesUnion, BeginsUnion};
-ghost use Rattle.keys_groups.specs.United.{AreUnited, AreSound, IsNextUnited, is_followed};
+ghost use Rattle.keys_groups.specs.United.{is_followed};
 ghost use Rattle.keys_groups.specs.United.{IsNotOneImage, IsAddError, IsFlawless};
 
+use crate::groups::Group;
+use crate::sketched::SketchedGroups;
 use crate::tabs::cut_last;
-use keys_sketches::{
-    Flaw, ImageUnion, entry_count, flaw_of, hex_line, image_length, read_hex, united_image,
-};
+use keys_sketches::{Flaw, ImageUnion, entry_count, flaw_of, hex_line, image_length, read_hex};
 use sketch_base::{Error, ErrorKind, compute_seed_hash};
 use std::alloc::{AllocError, Global};
 use std::collections::BTreeMap;
@@ -50,15 +50,6 @@ impl From<AllocError> for AddError {
     fn from(_e: AllocError) -> AddError {
         AddError::Memory
     }
-}
-
-/// A group of images.
-#[derive(Drop)]
-pub struct UnitedGroup {
-    /// The name of the group.
-    pub name: Vec<u8>,
-    /// The image of the union of its images.
-    pub image: Vec<u8>,
 }
 
 /// Groups of images, each with the union of its images.
@@ -277,22 +268,21 @@ impl UnitedGroups {
     {
         self.most_source
     }
+}
 
-    /// Takes out the first group of those that are left, or returns `None` if none is. Refused only with
-    /// `OutOfMemory`; the group is then dropped.
-    pub fn next_group(&mut self) -> Result<Option<UnitedGroup>, Error>
-        requires sound { AreSound self.old }
-        ensures next { (seed lg_k : ℕ) (lines names : List (List ℕ))
-            → AreUnited seed lg_k lines names self.old.map.entries
-            → IfOk result (IsNextUnited seed lg_k lines names self.new) }
-        ensures sound { AreSound self.new }
-        ensures refused { Refuses result None true }
-    {
+impl SketchedGroups for UnitedGroups {
+    ghost use Rattle.keys_groups.specs.United.{AreSound, ListsUnions};
+
+    ghost lists = { ListsUnions };
+
+    ghost is_sound = { AreSound };
+
+    fn take_group(&mut self) -> Result<Option<Group>, Error> {
         let Some((name, union)) = self.map.pop_first() else {
             return Ok(None);
         };
-        let image = united_image(&union)?;
-        Ok(Some(UnitedGroup { name, image }))
+        let sketch = union.to_sketch(true)?;
+        Ok(Some(Group { name, sketch }))
     }
 }
 

@@ -6,7 +6,7 @@ ghost use Rattle.core_laws.specs.Settings.{settings_refusal};
 ghost use Rattle.core_laws.specs.declared.TheConstants.{MAX_THETA};
 ghost use Rattle.keys_lines.specs.Lines.{lines_of, lines_of_all};
 ghost use Rattle.keys_groups.specs.United.{IsAddError, IsUniting, AreReady, AreAdded, HasUnions, AreSound};
-ghost use Rattle.keys_groups.specs.United.{AreUnited, AreUnitedLines};
+ghost use Rattle.keys_groups.specs.United.{IsUnitedText};
 ghost use Rattle.keys_groups.specs.United.{FailsIf, IsOfLine, IsOfLines, ReportsFirst, IsUniteError};
 ghost use Rattle.keys_groups.specs.United.{AreSketchedTexts, IsSketchedText};
 ghost use Rattle.keys_groups.specs.declared.groups.Grouping.{Grouping};
@@ -14,7 +14,8 @@ ghost use Rattle.keys_groups.specs.declared.groups.Grouping.{Grouping};
 use crate::laws::groups_unite;
 use crate::order::names_ascend;
 use crate::reading::{next_line, without_lf};
-use crate::united::{AddError, LineFlaw, UnitedGroups, check_union, image_line};
+use crate::sketched::sketched_text;
+use crate::united::{AddError, LineFlaw, UnitedGroups, check_union};
 use keys_sketches::{BLOCK, Sources, TextReader};
 use sketch_base::Error;
 use std::alloc::{AllocError, Global};
@@ -156,9 +157,9 @@ pub fn unite_groups<S: Sources>(
 /// byte for byte. Refused only with `OutOfMemory`.
 pub fn united_text(alloc: Global, groups: &mut UnitedGroups) -> Result<Vec<u8>, Error>
     requires sound { AreSound groups.old }
-    ensures text { (seed lg_k : ℕ) (lines names : List (List ℕ))
-        → AreUnited seed lg_k lines names groups.old.map.entries
-        → IfOk result (λ v. AreUnitedLines seed lg_k lines names v.items) }
+    ensures text { (seed lg_k : ℕ) (lines : List (List ℕ))
+        → HasUnions seed lg_k lines groups.old
+        → IfOk result (λ v. IsUnitedText seed lg_k lines v.items) }
     ensures whole { (grouping : Grouping) (sources : List (List (List ℕ))) (texts : List (List ℕ))
         → settings_refusal grouping.lg_k MAX_THETA grouping.hashing.seed ≡ None
         → AreSketchedTexts grouping sources texts
@@ -167,13 +168,5 @@ pub fn united_text(alloc: Global, groups: &mut UnitedGroups) -> Result<Vec<u8>, 
     ensures refused { Refuses result None true }
 {
     groups_unite();
-    let mut text = Vec::new(alloc);
-    for _ in 0..u64::MAX {
-        let Some(group) = groups.next_group()? else {
-            return Ok(text);
-        };
-        let line = image_line(alloc, group.name.as_slice(), group.image.as_slice())?;
-        text.extend_from_slice(line.as_slice())?;
-    }
-    Err(Error::from(AllocError))
+    sketched_text(alloc, groups)
 }

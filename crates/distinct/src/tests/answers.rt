@@ -9,7 +9,7 @@ ghost use Rattle.distinct_arguments.specs.Settings.{chosen_group, chosen_value};
 ghost use Rattle.distinct_inputs.specs.Failures.{chosen_amount};
 ghost use Rattle.distinct_inputs.specs.Lists.{names_of, texts_of};
 ghost use Rattle.distinct_commands.specs.Answers.{sketch_of, IsIntersectionImage, IsDifferenceImage, IsShownOf};
-ghost use Rattle.distinct_commands.specs.Answers.{IsCountOf, IsSketchText, IsCommandAnswer, IsCombinedText};
+ghost use Rattle.distinct_commands.specs.Answers.{IsCountText, IsSketchText, IsCommandAnswer, IsCombinedText};
 ghost use Rattle.distinct_commands.specs.Answers.{Performs};
 ghost use Rattle.distinct_commands.specs.Eval.{IsEvaluatedOf};
 ghost use Rattle.distinct_commands.specs.Operands.{words_for, words_in, Suits, SuitsAction};
@@ -74,7 +74,7 @@ fn answered(
     Ok(bytes)
 }
 
-/// What `count` writes of texts.
+/// What `count` writes of texts, or of groups of images.
 fn count_of(
     alloc: Global,
     options: &Options<'_>,
@@ -84,8 +84,7 @@ fn count_of(
 ) -> Result<Vec<u8>, Failure>
     requires seeded { seed_hash seed ≢ 0 }
     ensures counted { IfOk result (λ v.
-        IsCountOf (chosen_group (options_of options.now)) (options_of options.now) seed (texts_of texts.now)
-        v.items) }
+        IsCountText options.now.groups (options_of options.now) seed (texts_of texts.now) v.items) }
 {
     answered(
         alloc,
@@ -495,6 +494,11 @@ fn writes_each_answer(rt: HostRuntime) -> Result<(), Fail> {
             &["union", "--groups", "--hex", "a", "b"],
             GROUPS,
             "\t01030300001acc93dc8d24339151380f\na\t01030300001acc93fc08309e1c5ed36b\nbob\t01030300001acc935f1032909707cc27\n",
+        ),
+        (
+            &["count", "--groups", "--hex", "a", "b"],
+            GROUPS,
+            "\t1\na\t1\nbob\t1\n",
         ),
         (
             &["meet", "--hex", "--expect=2", "a", "b"],

@@ -4,9 +4,9 @@ use Rattle.distinct_commands.specs.Groups.{groups_head}
 use Rattle.distinct_commands.proofs.groups.GroupPrinter.table.Goals as goal
 
 pub returns-clause-printed : goal.returns-clause-printed
-returns-clause-printed c = λ grouping lines names left.
+returns-clause-printed g c = λ sketch names left.
     let options = options_of c.args.self.options.now in
-    let printed = c.in_ok-lines.ensures.printed grouping lines names left in (
+    let printed = c.in_ok-lines.ensures.printed sketch names left in (
       printed.0,
       printed.1,
       c.in_ok-extend_from_slice.ensures.items
