@@ -156,7 +156,8 @@ def sums_of(texts, options, seed):
         for number, line in enumerate(lines_of(text), 1):
             value = key_of(line, options["--value"], options["--separator"]) if options.get("--value") else b"1"
             if not re.fullmatch(rb"[0-9]+", value) or int(value) > M64:
-                raise Failure(f"{escaped(called(name))}: line {number}: its value is not a whole number up to {M64}: check --value and --separator")
+                found = f'its value "{quoted(value)}" in field {options["--value"]}'
+                raise Failure(f"{escaped(called(name))}: line {number}: {found} is not a whole number up to {M64}: check --value and --separator")
             key = murmur(key_of(line, options["--field"], options["--separator"]), seed) >> 1
             sums[key] = combine(sums[key], int(value)) if key in sums else int(value)
             if sums[key] > M64:
@@ -426,6 +427,11 @@ def escaped(name):
     """A name whose control characters are escaped."""
     short = {"\t": r"\t", "\r": r"\r", "\n": r"\n"}
     return re.sub(r"[\0-\x1f\x7f-\x9f]", lambda it: short.get(it[0], r"\u{%x}" % ord(it[0])), name)
+
+
+def quoted(value):
+    """A value as messages quote it: its first 64 bytes, whose control characters and bytes above 127 are escaped."""
+    return escaped("".join(chr(it) if it < 128 else rf"\x{it:02x}" for it in value[:64])) + ".." * (len(value) > 64)
 
 
 def shown_name(name):

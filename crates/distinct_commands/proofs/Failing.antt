@@ -39,7 +39,7 @@ images_combining operator options seed count texts (NoLine name) failed = failed
 images_combining operator options seed count texts (PastGreatest name line) failed = absurd failed
 images_combining operator options seed count texts (PastUnion name line) failed = absurd failed
 images_combining operator options seed count texts (PastResult text) failed = absurd failed
-images_combining operator options seed count texts (NotANumber name line) failed = absurd failed
+images_combining operator options seed count texts (NotANumber name line field value) failed = absurd failed
 images_combining operator options seed count texts (LongName path length) failed = absurd failed
 images_combining operator options seed count texts (NotWritten name error) failed = absurd failed
 
@@ -71,7 +71,7 @@ union_combining options seed count texts (NoLine name) failed = failed
 union_combining options seed count texts (PastGreatest name line) failed = absurd failed
 union_combining options seed count texts (PastUnion name line) failed = failed
 union_combining options seed count texts (PastResult text) failed = absurd failed
-union_combining options seed count texts (NotANumber name line) failed = absurd failed
+union_combining options seed count texts (NotANumber name line field value) failed = absurd failed
 union_combining options seed count texts (LongName path length) failed = absurd failed
 union_combining options seed count texts (NotWritten name error) failed = absurd failed
 
@@ -104,7 +104,7 @@ named IsNameError IsOther (NoLine name) never failed = failed
 named IsNameError IsOther (PastGreatest name line) never failed = failed
 named IsNameError IsOther (PastUnion name line) never failed = failed
 named IsNameError IsOther (PastResult text) never failed = failed
-named IsNameError IsOther (NotANumber name line) never failed = failed
+named IsNameError IsOther (NotANumber name line field value) never failed = failed
 named IsNameError IsOther (LongName path length) never failed = failed
 named IsNameError IsOther (NotWritten name error) never failed = failed
 

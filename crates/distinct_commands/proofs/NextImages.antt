@@ -249,6 +249,6 @@ fails_before sums hex seed old now P (NoTab name line) so_far failed = absurd fa
 fails_before sums hex seed old now P (PastGreatest name line) so_far failed = absurd failed
 fails_before sums hex seed old now P (PastUnion name line) so_far failed = absurd failed
 fails_before sums hex seed old now P (PastResult text) so_far failed = absurd failed
-fails_before sums hex seed old now P (NotANumber name line) so_far failed = absurd failed
+fails_before sums hex seed old now P (NotANumber name line field value) so_far failed = absurd failed
 fails_before sums hex seed old now P (LongName path length) so_far failed = absurd failed
 fails_before sums hex seed old now P (NotWritten name error) so_far failed = absurd failed

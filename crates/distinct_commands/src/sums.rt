@@ -3,7 +3,8 @@
 ghost use Rattle.std.specs.Prelude.{◌≡◌, ◌≢◌, ℕ, List, Option, IfOk, IfErr, IfSome, string_bytes, Bool};
 ghost use Rattle.sketch_base.specs.Seed.{seed_hash};
 ghost use Rattle.keys_lines.specs.Lines.{lines_of_all};
-ghost use Rattle.keys_sums.specs.Amounts.{AreNumbers};
+ghost use Rattle.keys_sums.specs.Amounts.{AreNumbers, value_field};
+ghost use Rattle.keys_sums.specs.Parts.{bytes_of};
 ghost use Rattle.keys_sums.specs.declared.addends.Amount.{Amount};
 ghost use Rattle.keys_sums.specs.Images.{written_sums, ReadsSums};
 ghost use Rattle.keys_sums.specs.declared.addends.Amount.TheVariants.{One};
@@ -22,9 +23,9 @@ use crate::job::Job;
 use distinct_arguments::{Fault, Form, Mode, Options};
 use distinct_inputs::Inputs;
 use distinct_messages::{Failure, out_of_memory};
-use keys_lines::Hashing;
+use keys_lines::{Hashing, Key};
 use keys_sketches::Sources;
-use keys_sums::{Amount, SumError, SumsOfLines, sum_sources, sums_image};
+use keys_sums::{Amount, SumError, SumsOfLines, ValueStart, sum_sources, sums_image};
 use std::alloc::{AllocError, Global};
 use totals::{
     lines_total, lines_total_json_line, lines_total_line, lines_total_tsv_head,
@@ -70,17 +71,37 @@ fn overflow_failure<S: Sources>(alloc: Global, inputs: &Inputs<'_, S>, line: u64
     }
 }
 
-/// The failure for a line of the source that was opened last, which has no number to add.
-fn number_failure<S: Sources>(alloc: Global, inputs: &Inputs<'_, S>, line: u64) -> Failure
-    ensures of_sums { (mode : SummaryMode) (options : OptionValues) (seed : ℕ) (amount : Amount)
-        (texts : Option (List (List ℕ)))
+/// The number, from 1, of the field that lines add; 0 if they add none.
+fn value_field(amount: Amount) -> u64
+    ensures { result ≡ value_field amount }
+{
+    match amount {
+        Amount::Number(Key::Field(before, _)) => before as u64 + 1,
+        _ => 0,
+    }
+}
+
+/// The failure for a line of the source that was opened last, which has no number to add in its field, which starts in
+/// this way.
+fn number_failure<S: Sources>(
+    alloc: Global,
+    inputs: &Inputs<'_, S>,
+    amount: Amount,
+    line: u64,
+    start: &ValueStart,
+) -> Failure
+    ensures of_sums { (mode : SummaryMode) (options : OptionValues) (seed : ℕ) (texts : Option (List (List ℕ)))
         → amount ≢ One
-        → HasNoNumberIn amount line texts
+        → HasNoNumberIn amount line (bytes_of start.now) texts
         → IsOfSums mode options seed amount texts result }
     ensures fallible { (may_fail : Bool) → UnreadableIf may_fail result }
 {
-    match String::from_str(alloc, inputs.name()) {
-        Ok(name) => Failure::NotANumber(name, line),
+    let Ok(name) = String::from_str(alloc, inputs.name()) else {
+        return Failure::Memory;
+    };
+    let mut value = Vec::new(alloc);
+    match value.extend_from_slice(start.as_bytes()) {
+        Ok(()) => Failure::NotANumber(name, line, value_field(amount), value),
         Err(_) => Failure::Memory,
     }
 }
@@ -163,7 +184,9 @@ impl<'a, S: Sources + Drop> Job<'a, S> {
             Ok(sums) => Ok(sums),
             Err(SumError::Failed(error)) => Err(inputs.read_failure(alloc, error)),
             Err(SumError::PastGreatest(line)) => Err(overflow_failure(alloc, &inputs, line)),
-            Err(SumError::NotANumber(line)) => Err(number_failure(alloc, &inputs, line)),
+            Err(SumError::NotANumber(line, start)) => {
+                Err(number_failure(alloc, &inputs, amount, line, &start))
+            }
             Err(SumError::Refused(error)) => Err(out_of_memory(error)),
         }
     }

@@ -14,7 +14,7 @@ use Rattle.keys_sketches.specs.declared.sketching.ReadError.{ReadError}
 use Rattle.keys_sketches.specs.declared.sketching.ReadError.TheVariants.{Refused, Failed}
 use Rattle.tuple_sketches.specs.declared.numbers.SummaryMode.{SummaryMode}
 use Rattle.tuple_sketches.specs.declared.numbers.SummaryMode.TheVariants.{Sum, Min, Max}
-use Rattle.keys_sums.specs.Amounts.{added_by}
+use Rattle.keys_sums.specs.Amounts.{added_by, value_field}
 use Rattle.keys_sums.specs.Refusals.{HasNoNumberAt, IsPast}
 use Rattle.keys_sums.specs.declared.addends.Amount.{Amount}
 use Rattle.keys_sums.specs.declared.addends.Amount.TheVariants.{One, Number}
@@ -131,14 +131,15 @@ IsOfGroups seed texts (NoHex name line) = IfSome texts (HasFirstFlawed seed line
 IsOfGroups seed texts (NoSketch name line flaw) = IfSome texts (HasFirstFlawed seed line (NoImage flaw))
 IsOfGroups seed texts failure = IsOfReading failure
 
--- the line of this number in some text has no number to add, if the texts are known
-abbrev pub HasNoNumberIn : Amount → (line : ℕ) → (texts : Option (List (List ℕ))) → Type 0
-HasNoNumberIn amount line texts = IfSome texts (HasFault (λ text. HasNoNumberAt amount line (lines_of text)))
+-- the line of this number in some text has no number to add, and its field starts with these bytes, if the texts are known
+abbrev pub HasNoNumberIn : Amount → (line : ℕ) → (start : List ℕ) → (texts : Option (List (List ℕ))) → Type 0
+HasNoNumberIn amount line start texts = IfSome texts (HasFault (λ text. HasNoNumberAt amount line start (lines_of text)))
 
 -- lines are not summed: memory was refused, a file can't be read, a sum is 2^64 or more, or a line has no number to add
 abbrev pub IsOfSums : SummaryMode → OptionValues → (seed : ℕ) → Amount → (texts : Option (List (List ℕ))) → Failure → Type 0
 IsOfSums mode options seed amount texts (PastGreatest name line) = HasGreatSum mode options seed amount texts
-IsOfSums mode options seed amount texts (NotANumber name line) = (amount ≢ One) × HasNoNumberIn amount line texts
+IsOfSums mode options seed amount texts (NotANumber name line field start) =
+    (amount ≢ One) × (field ≡ value_field amount) × HasNoNumberIn amount line start.items texts
 IsOfSums mode options seed amount texts failure = IsOfReading failure
 
 -- lines are not sketched, or not summed if they add something

@@ -62,8 +62,9 @@ pub enum Failure {
     PastUnion(String, u64),
     /// The sum of a key in the result of this expression, or of a part of it, would be 2^64 or more.
     PastResult(String),
-    /// The line of this number, from 1, of a file has no whole number below 2^64 in its field.
-    NotANumber(String, u64),
+    /// The line of this number, from 1, of a file has no whole number below 2^64 in the field of this number, from 1,
+    /// which starts with these bytes: the first 65, or all if there are fewer.
+    NotANumber(String, u64, u64, Vec<u8>),
     /// Writing to standard output, or to the file of this name, failed.
     NotWritten(String, io::Error),
     /// The file of a group would have this path, whose last part has this many bytes: more than fit.
@@ -139,6 +140,32 @@ impl fmt::Display for Named<'_> {
                 write!(f, "{}", c.escape_default())?;
             } else {
                 write!(f, "{c}")?;
+            }
+        }
+        Ok(())
+    }
+}
+
+/// The most bytes of a value that a message quotes.
+const LONGEST_QUOTE: usize = 64;
+
+/// A value as messages quote it: each control character is escaped, and each byte that isn't ASCII, since it may look like
+/// a digit or a blank; the rest after 64 bytes is `..`.
+#[derive(Drop)]
+struct Quoted<'a>(&'a [u8]);
+
+impl fmt::Display for Quoted<'_> {
+    fn fmt<W: fmt::Write>(&self, f: &mut fmt::Formatter<W>) -> fmt::Result {
+        for (place, byte) in self.0.iter().enumerate() {
+            if LONGEST_QUOTE <= place {
+                return write!(f, "..");
+            }
+            if !byte.is_ascii() {
+                write!(f, "\\x{byte:02x}")?;
+            } else if byte.is_ascii_control() {
+                write!(f, "{}", char::from(*byte).escape_default())?;
+            } else {
+                write!(f, "{}", char::from(*byte))?;
             }
         }
         Ok(())
@@ -429,10 +456,11 @@ impl fmt::Display for Failure {
                 Escaped(text),
                 u64::MAX
             ),
-            Failure::NotANumber(name, line) => write!(
+            Failure::NotANumber(name, line, field, value) => write!(
                 f,
-                "{}: line {line}: its value is not a whole number up to {}: check --value and --separator",
+                "{}: line {line}: its value \"{}\" in field {field} is not a whole number up to {}: check --value and --separator",
                 Named(name),
+                Quoted(value.as_slice()),
                 u64::MAX
             ),
             Failure::NotWritten(name, error) => write!(f, "{}: {}", Named(name), Cause(error)),

@@ -1,4 +1,5 @@
 pub mod Numerals
+pub mod FirstBytes
 pub mod Amounts
 pub mod Exact
 pub mod Adding

@@ -72,7 +72,7 @@ count_from_start (suc more) = ap (λ n. min (n + 1) (2 ^ 64 - 1)) (count_from_st
 
 -- .. behind others
 lacking_behind : (amount : Amount) (m n : ℕ) (front lines all : List (List ℕ)) (u : SumError) → front ++ lines ≡ all → n ≡ count_after m (length front) → LacksNumberIn amount n lines u → LacksNumberIn amount m all u
-lacking_behind amount m n front lines all (NotANumber number) whole counted lacking = record {
+lacking_behind amount m n front lines all (NotANumber number start) whole counted lacking = record {
   before = front ++ lacking.before;
   line = lacking.line;
   others = lacking.others;
@@ -81,14 +81,22 @@ lacking_behind amount m n front lines all (NotANumber number) whole counted lack
   numbered =
       lacking.numbered ∙ ap (λ k. min (count_after k (length lacking.before) + 1) (2 ^ 64 - 1)) counted
       ∙ ap (λ k. min (k + 1) (2 ^ 64 - 1)) (count_more m front lacking.before);
+  quoted = lacking.quoted;
 }
 lacking_behind amount m n front lines all (Refused kind) whole counted lacking = tt
 lacking_behind amount m n front lines all (Failed error) whole counted lacking = tt
 lacking_behind amount m n front lines all (PastGreatest number) whole counted lacking = tt
 
+-- .. that is the only one
+pub lacking_alone : (amount : Amount) (line : List ℕ) (count : ℕ) (u : SumError) → LacksNumber amount line count u → LacksNumberIn amount count (line ∷ []) u
+lacking_alone amount line count (NotANumber number start) lacking = record { before = []; line = line; others = []; parted = refl; none = lacking.0; numbered = lacking.1; quoted = lacking.2 }
+lacking_alone amount line count (Refused kind) lacking = tt
+lacking_alone amount line count (Failed error) lacking = tt
+lacking_alone amount line count (PastGreatest number) lacking = tt
+
 -- .. by its number in a text
 lacking_at : (amount : Amount) (text : List ℕ) (u : SumError) → LacksNumberIn amount 0 (lines_of text) u → LacksNumberAt amount text u
-lacking_at amount text (NotANumber number) lacking = record {
+lacking_at amount text (NotANumber number start) lacking = record {
   before = lacking.before;
   line = lacking.line;
   others = lacking.others;
@@ -97,6 +105,7 @@ lacking_at amount text (NotANumber number) lacking = record {
   numbered =
       let same : suc (length lacking.before) ≡ length lacking.before + 1 = omega arith in
       lacking.numbered ∙ count_from_start (suc (length lacking.before)) ∙ ap (λ n. min n (2 ^ 64 - 1)) same;
+  quoted = lacking.quoted;
 }
 lacking_at amount text (Refused kind) lacking = tt
 lacking_at amount text (Failed error) lacking = tt
@@ -104,7 +113,7 @@ lacking_at amount text (PastGreatest number) lacking = tt
 
 -- one of the texts has such a line
 pub lacking_texts : (amount : Amount) (u : SumError) (texts : List (List ℕ)) → HasFault (λ text. LacksNumberAt amount text u) texts → LacksNumberOf amount texts u
-lacking_texts amount (NotANumber number) texts fault = fault
+lacking_texts amount (NotANumber number start) texts fault = fault
 lacking_texts amount (Refused kind) texts fault = tt
 lacking_texts amount (Failed error) texts fault = tt
 lacking_texts amount (PastGreatest number) texts fault = tt
@@ -121,14 +130,14 @@ past_among : (mode : SummaryMode) (hashing : Hashing) (amount : Amount) (lines b
 past_among mode hashing amount lines back all (PastGreatest number) whole past = past_before mode hashing (added_by amount) lines back all whole past
 past_among mode hashing amount lines back all (Refused kind) whole past = tt
 past_among mode hashing amount lines back all (Failed error) whole past = tt
-past_among mode hashing amount lines back all (NotANumber number) whole past = tt
+past_among mode hashing amount lines back all (NotANumber number start) whole past = tt
 
 -- what is reported of an addition that the policy refused
 pub past_policy : (mode : SummaryMode) (hashing : Hashing) (amount : Amount) (lines : List (List ℕ)) (kind : ErrorKind) (u : SumError) → IsByPolicy kind u → (kind ≡ Policy → IsPast mode hashing (added_by amount) lines) → IsPastIn mode hashing amount lines u
 past_policy mode hashing amount lines kind (PastGreatest number) policy past = past policy
 past_policy mode hashing amount lines kind (Refused other) policy past = tt
 past_policy mode hashing amount lines kind (Failed error) policy past = tt
-past_policy mode hashing amount lines kind (NotANumber number) policy past = tt
+past_policy mode hashing amount lines kind (NotANumber number start) policy past = tt
 
 module _ (hashing : Hashing) (amount : Amount) where
   -- nothing was read yet
@@ -212,13 +221,14 @@ module _ (hashing : Hashing) (amount : Amount) where
   -- .. is one of the lines that a block ends
   pub lacking_line : (front taken line others more block : List ℕ) (count counted : ℕ) (u : SumError) (r s : Summed) (last : OpenAddend) (was : HasTaken hashing amount front taken r s last count counted) → Lacks 10 line →
       block ≡ taken ++ (line ++ 10 ∷ others) → LacksNumber amount (was.left ++ line) counted u → LacksNumberIn amount count (lines_after front (block ++ more)) u
-  lacking_line front taken line others more block count counted (NotANumber number) r s last was lacks parted lacking = record {
+  lacking_line front taken line others more block count counted (NotANumber number start) r s last was lacks parted lacking = record {
     before = was.ended;
     line = was.left ++ line;
     others = lines_after [] (others ++ more);
     parted = line_parted front taken line others more block r s last count counted was lacks parted;
     none = lacking.0;
     numbered = lacking.1 ∙ ap (λ n. min (n + 1) (2 ^ 64 - 1)) was.counts;
+    quoted = lacking.2;
   }
   lacking_line front taken line others more block count counted (Refused kind) r s last was lacks parted lacking = tt
   lacking_line front taken line others more block count counted (Failed error) r s last was lacks parted lacking = tt

@@ -1,3 +1,4 @@
+pub mod Parts
 pub mod Amounts
 pub mod Sums
 pub mod Bins

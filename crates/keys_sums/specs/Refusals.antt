@@ -10,7 +10,8 @@ use Rattle.keys_lines.specs.declared.key.Hashing.{Hashing}
 use Rattle.tuple_sketches.specs.declared.numbers.SummaryMode.{SummaryMode}
 use Rattle.tuple_sketches.specs.declared.numbers.SummaryMode.TheVariants.{Sum}
 use Rattle.keys_sketches.specs.Refusals.{HasFault}
-use Rattle.keys_sums.specs.Amounts.{amount_in, added_by}
+use Rattle.keys_sums.specs.Amounts.{amount_in, added_by, value_in}
+use Rattle.keys_sums.specs.Parts.{bytes_of, start_of}
 use Rattle.keys_sums.specs.Sums.{summary_at}
 use Rattle.keys_sums.specs.declared.addends.Amount.{Amount}
 use Rattle.keys_sums.specs.declared.addends.Amount.TheVariants.{One}
@@ -26,11 +27,13 @@ abbrev pub IsSumError : Amount → Option ErrorKind → SumError → Type 0
 IsSumError amount refusal (Refused kind) = (refusal ≡ Some kind) ⊎ (kind ≡ OutOfMemory)
 IsSumError amount refusal (Failed error) = refusal ≡ None
 IsSumError amount refusal (PastGreatest line) = refusal ≡ None
-IsSumError amount refusal (NotANumber line) = (refusal ≡ None) × (amount ≢ One)
+IsSumError amount refusal (NotANumber line start) = (refusal ≡ None) × (amount ≢ One)
 
--- a line is reported to have no number only if it has none, and its number is that behind this count of lines
+-- a line is reported to have no number only if it has none; its number is that behind this count of lines, and what is quoted
+-- is how the part starts that should be a number
 abbrev pub LacksNumber : Amount → (line : List ℕ) → (count : ℕ) → SumError → Type 0
-LacksNumber amount line count (NotANumber number) = (amount_in amount line ≡ None) × (number ≡ min (count + 1) (2 ^ 64 - 1))
+LacksNumber amount line count (NotANumber number start) =
+    (amount_in amount line ≡ None) × (number ≡ min (count + 1) (2 ^ 64 - 1)) × (bytes_of start ≡ start_of (value_in amount line))
 LacksNumber amount line count sum_error = ⊤
 
 -- a line adds no number
@@ -42,37 +45,40 @@ abbrev pub count_after : (count more : ℕ) → ℕ
 count_after count zero = count
 count_after count (suc more) = min (count_after count more + 1) (2 ^ 64 - 1)
 
--- the line of this number, behind this count of lines, adds no number
-pub record HasNoNumberBehind (amount : Amount) (count number : ℕ) (lines : List (List ℕ)) : Type 0 where
+-- the line of this number, behind this count of lines, adds no number, and the part that should be one starts with these bytes
+pub record HasNoNumberBehind (amount : Amount) (count number : ℕ) (start : List ℕ) (lines : List (List ℕ)) : Type 0 where
   pub before : List (List ℕ)
   pub line : List ℕ
   pub others : List (List ℕ)
   pub parted : lines ≡ before ++ line ∷ others
   pub none : HasNoNumber amount line
   pub numbered : number ≡ count_after count (suc (length before))
+  pub quoted : start ≡ start_of (value_in amount line)
 
 -- a line is reported to have no number only if it is one of these lines, behind this count of lines, and has none
 abbrev pub LacksNumberIn : Amount → (count : ℕ) → (lines : List (List ℕ)) → SumError → Type 0
-LacksNumberIn amount count lines (NotANumber number) = HasNoNumberBehind amount count number lines
+LacksNumberIn amount count lines (NotANumber number start) = HasNoNumberBehind amount count number (bytes_of start) lines
 LacksNumberIn amount count lines sum_error = ⊤
 
--- the line of this number adds no number; any number above 2^64 - 1 is reported as that
-pub record HasNoNumberAt (amount : Amount) (number : ℕ) (lines : List (List ℕ)) : Type 0 where
+-- the line of this number adds no number, and the part that should be one starts with these bytes; any number above 2^64 - 1 is
+-- reported as that
+pub record HasNoNumberAt (amount : Amount) (number : ℕ) (start : List ℕ) (lines : List (List ℕ)) : Type 0 where
   pub before : List (List ℕ)
   pub line : List ℕ
   pub others : List (List ℕ)
   pub parted : lines ≡ before ++ line ∷ others
   pub none : HasNoNumber amount line
   pub numbered : number ≡ min (length before + 1) (2 ^ 64 - 1)
+  pub quoted : start ≡ start_of (value_in amount line)
 
 -- a line is reported to have no number only if it is the line of its number in a text, and has none
 abbrev pub LacksNumberAt : Amount → (text : List ℕ) → SumError → Type 0
-LacksNumberAt amount text (NotANumber number) = HasNoNumberAt amount number (lines_of text)
+LacksNumberAt amount text (NotANumber number start) = HasNoNumberAt amount number (bytes_of start) (lines_of text)
 LacksNumberAt amount text sum_error = ⊤
 
 -- .. in one of these texts
 abbrev pub LacksNumberOf : Amount → (texts : List (List ℕ)) → SumError → Type 0
-LacksNumberOf amount texts (NotANumber number) = HasFault (λ text. HasNoNumberAt amount number (lines_of text)) texts
+LacksNumberOf amount texts (NotANumber number start) = HasFault (λ text. HasNoNumberAt amount number (bytes_of start) (lines_of text)) texts
 LacksNumberOf amount texts sum_error = ⊤
 
 -- the mode adds, and the sum of what the lines of some hash add is 2^64 or more

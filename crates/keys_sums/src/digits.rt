@@ -1,7 +1,9 @@
 //! A whole number in decimal digits that is read byte by byte.
-ghost use Rattle.std.specs.Prelude.{◌≡◌, ◌<◌, ◌≤◌, ◌+◌, ◌*◌, ◌^◌, ◌++◌, ◌∷◌, ℕ, List, []};
+ghost use Rattle.std.specs.Prelude.{◌≡◌, ◌<◌, ◌≤◌, ◌+◌, ◌*◌, ◌^◌, ℕ, List};
 ghost use Rattle.keys_sums.specs.Amounts.{number_in, IsRead};
 ghost use Rattle.keys_sums.specs.declared.digits.Digits.TheVariants as digits;
+
+use crate::parts::Collected;
 
 /// What the bytes read so far spell.
 #[derive(Clone, Copy, Debug, PartialEq, Eq)]
@@ -28,11 +30,16 @@ fn with_digit(number: u64, digit: u64) -> Digits
     }
 }
 
-impl Digits {
-    /// The digits with one byte more.
-    pub(crate) fn with(self, byte: u8) -> Digits
-        ensures { (bytes : List ℕ) → IsRead bytes self → IsRead (bytes ++ byte ∷ []) result }
-    {
+impl Collected for Digits {
+    ghost use Rattle.keys_sums.specs.Amounts.{IsRead};
+
+    ghost is_of = { IsRead };
+
+    fn nothing() -> Digits {
+        Digits::Nothing
+    }
+
+    fn with(self, byte: u8) -> Digits {
         if !byte.is_ascii_digit() {
             return Digits::Wrong;
         }
@@ -43,7 +50,9 @@ impl Digits {
             Digits::Wrong => Digits::Wrong,
         }
     }
+}
 
+impl Digits {
     /// The number that the bytes spell, if they spell one below 2^64.
     pub(crate) fn number(self) -> Option<u64>
         ensures { (bytes : List ℕ) → IsRead bytes self → result ≡ number_in bytes }

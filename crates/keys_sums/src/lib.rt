@@ -24,7 +24,9 @@ mod digits;
 mod images;
 pub mod laws;
 mod operands;
+mod parts;
 mod sources;
+mod starts;
 mod summing;
 mod uniting;
 
@@ -33,6 +35,7 @@ pub use bins::{BINS, count_in, greatest_of, greatest_sum, least_of};
 pub use images::{read_sums, sums_image};
 pub use operands::all_sums;
 pub use sources::sum_sources;
+pub use starts::ValueStart;
 pub use summing::{SumError, SumSketch, Summation, SumsOfLines, add_lines};
 pub use tuple_sketches::SummaryMode;
 pub use uniting::{UnionOfSums, union_of_sums, unite_sums};

@@ -79,10 +79,10 @@ fn add_sources<A: Allocator + Clone, B: Allocator + Clone + Drop, S: Sources>(
 ///
 /// Refused with `InvalidArgument` only for an `lg_k` that isn't from 4 to 26 or a seed whose seed hash is 0, and with
 /// `OutOfMemory`. A line that would make a sum 2^64 or more, in the mode `Sum`, or that adds no number, is an error
-/// that has the line's number in its text. A line is reported to add no number only if the line of its number in some text adds none, and
-/// a sum to be 2^64 or more only if one of all lines is. If a source fails, or can't be opened, its error is
-/// returned: only if sources may fail, so never for texts in memory. For a wrong `lg_k` or seed nothing is read; no
-/// clause says so.
+/// that has the line's number in its text. A line is reported to add no number only if the line of its number in some text
+/// adds none, with the first bytes of the part that should be one, and a sum to be 2^64 or more only if one of all lines
+/// is. If a source fails, or can't be opened, its error is returned: only if sources may fail, so never for texts in
+/// memory. For a wrong `lg_k` or seed nothing is read; no clause says so.
 pub fn sum_sources<A: Allocator + Clone + Drop, S: Sources>(
     alloc: A,
     mode: SummaryMode,

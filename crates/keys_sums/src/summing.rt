@@ -8,7 +8,7 @@ ghost use Rattle.core_laws.specs.declared.TheConstants.{MAX_THETA};
 ghost use Rattle.keys_lines.specs.Keys.{line_hash};
 ghost use Rattle.keys_lines.specs.Lines.{lines_after};
 ghost use Rattle.keys_lines.specs.declared.key.Hashing.{Hashing};
-ghost use Rattle.keys_sums.specs.Amounts.{added_by, amount_in, IsOpenAddend};
+ghost use Rattle.keys_sums.specs.Amounts.{added_by, amount_in, IsEndedAddend, IsOpenAddend};
 ghost use Rattle.keys_sums.specs.Sums.{GREATEST_TOTAL, HasAdded, sketch_of_sums, total_added};
 ghost use Rattle.keys_sums.specs.Reading.{HasTaken, AddsLines, AddsText, ReportsPast, ReportsPastText};
 ghost use Rattle.keys_sums.specs.Refusals.{FailsIf, IsAddRefusal, IsByPolicy, IsLastingFailure, IsPast, IsSumError};
@@ -17,6 +17,7 @@ ghost use Rattle.keys_sums.specs.declared.addends.Amount.{Amount};
 ghost use Rattle.tuple_sketches.specs.declared.numbers.SummaryMode.{SummaryMode};
 
 use crate::addends::{Amount, OpenAddend};
+use crate::starts::ValueStart;
 use keys_lines::{Hashing, cut_line};
 use keys_sketches::TextReader;
 use sketch_base::{Error, ErrorKind};
@@ -40,8 +41,9 @@ pub enum SumError {
     /// The mode is `Sum`, and the sum of a key would be 2^64 or more with the line of this number, from 1, in its
     /// source.
     PastGreatest(u64),
-    /// The line of this number, from 1, in its source doesn't add a number: its part is no whole number below 2^64.
-    NotANumber(u64),
+    /// The line of this number, from 1, in its source doesn't add a number: its part, which starts in this way, is no
+    /// whole number below 2^64.
+    NotANumber(u64, ValueStart),
 }
 
 impl From<Error> for SumError {
@@ -170,28 +172,31 @@ fn add_error(error: Error, count: u64) -> SumError
     }
 }
 
-/// Adds what a line behind `count` others of its source adds. It is reported to have no number only if it has none.
+/// Adds what a line behind `count` others of its source adds, whose last bytes are `end`. It is reported to have no number
+/// only if it has none, and what is quoted is its part.
 fn add_line<A: Allocator + Clone>(
     summation: &mut Summation<A>,
     amount: Amount,
     last: &OpenAddend,
+    end: &[u8],
     count: u64,
 ) -> Result<(), SumError>
-    ensures added { (hashing : Hashing) (line : List ℕ)
-        → IsOpenAddend hashing amount line last.now
+    ensures added { (hashing : Hashing) (line front : List ℕ)
+        → IsEndedAddend hashing amount line front end.now last.now
         → AddsLines hashing amount (line ∷ []) summation.old result summation.new }
-    ensures number { (hashing : Hashing) (line : List ℕ)
-        → IsOpenAddend hashing amount line last.now
+    ensures number { (hashing : Hashing) (line front : List ℕ)
+        → IsEndedAddend hashing amount line front end.now last.now
         → IfErr result (LacksNumber amount line count) }
-    ensures past { (hashing : Hashing) (line : List ℕ)
-        → IsOpenAddend hashing amount line last.now
+    ensures past { (hashing : Hashing) (line front : List ℕ)
+        → IsEndedAddend hashing amount line front end.now last.now
         → ReportsPast hashing amount (line ∷ []) summation.old result }
     ensures refused { RefusesSums amount result None }
     ensures retried { IfErr result IsLastingFailure }
     ensures fallible { (may_fail : Bool) → IfErr result (FailsIf may_fail) }
 {
     let Some(value) = last.value(amount) else {
-        return Err(SumError::NotANumber(count.saturating_add(1)));
+        let start = last.value_start(amount, end);
+        return Err(SumError::NotANumber(count.saturating_add(1), start));
     };
     match summation.add(last.hash(), value) {
         Ok(()) => Ok(()),
@@ -225,9 +230,9 @@ fn take_block<A: Allocator + Clone>(
     let mut rest = block;
     let mut count = count;
     while let Some((piece, others)) = cut_line(rest) {
-        last.extend(amount, piece);
-        add_line(summation, amount, last, count)?;
-        *last = OpenAddend::new(hashing);
+        last.end(amount, piece);
+        add_line(summation, amount, last, piece, count)?;
+        last.restart(hashing);
         count = count.saturating_add(1);
         rest = others;
     }
@@ -258,7 +263,7 @@ fn take_last<A: Allocator + Clone>(
     if !last.is_begun() {
         return Ok(());
     }
-    add_line(summation, amount, last, count)
+    add_line(summation, amount, last, &[], count)
 }
 
 /// Adds what each line that a reader has left adds, block by block, to the number at the line's key, by the
@@ -266,9 +271,10 @@ fn take_last<A: Allocator + Clone>(
 /// repeated.
 ///
 /// Refused only with `OutOfMemory`. A line that would make a sum 2^64 or more, in the mode `Sum`, or that adds no
-/// number, is an error that has its number. A line is reported to add no number only if the line of its number adds none, and a sum to be
-/// 2^64 or more only if one of all lines is. If the reader fails, its error is returned: only if its reads may fail,
-/// so never for a text in memory. After an error some first part of the lines is added; no clause says so.
+/// number, is an error that has its number. A line is reported to add no number only if the line of its number adds none,
+/// with the first bytes of the part that should be one, and a sum to be 2^64 or more only if one of all lines is. If the
+/// reader fails, its error is returned: only if its reads may fail, so never for a text in memory. After an error some
+/// first part of the lines is added; no clause says so.
 ///
 /// `block` has at least one byte, and its length is the most that one read gets. Its old contents are not used.
 pub fn add_lines<A: Allocator + Clone, R: TextReader>(

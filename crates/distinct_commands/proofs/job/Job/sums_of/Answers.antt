@@ -34,7 +34,7 @@ returns-in-Err-NotANumber-clause-failed g c =
     let texts = g.S.Sources.texts c.args.self.inputs.sources in
     let is = subst (λ (u : SumError). IsSumError amount refusal u) c.in-Err-NotANumber.field-0-is c.in-Err-NotANumber.ensures.refused in
     let lacking = subst (λ (u : SumError). IfSome texts (λ all. LacksNumberOf amount all u)) c.in-Err-NotANumber.field-0-is c.in-Err-NotANumber.ensures.numbered in
-    c.number_failure.ensures.of_sums c.args.mode (options_of c.args.self.options.now) c.args.self.seed amount texts is.1 lacking
+    c.number_failure.ensures.of_sums c.args.mode (options_of c.args.self.options.now) c.args.self.seed texts is.1 lacking
 
 pub returns-in-Err-PastGreatest-clause-fallible : goal.returns-in-Err-PastGreatest-clause-fallible
 returns-in-Err-PastGreatest-clause-fallible g c = c.overflow_failure.ensures.fallible g.S.Sources.may_fail

@@ -3,7 +3,7 @@ use Rattle.std.proofs.lemmas.Bool.{cases_lt}
 use Rattle.keys_sums.specs.Amounts.{IsRead, number_in}
 use Rattle.keys_sums.specs.declared.digits.Digits.{Digits}
 use Rattle.keys_sums.proofs.Numerals.{next_digit, past_digit, no_digit}
-use Rattle.keys_sums.proofs.digits.Digits.with.Goals as goal
+use Rattle.keys_sums.proofs.digits.DigitsCollected.with.Goals as goal
 
 pub returns-then-not-is_ascii_digit : goal.returns-then-not-is_ascii_digit
 returns-then-not-is_ascii_digit c = λ bytes is. no_digit bytes c.args.byte (sym c.is_ascii_digit.ensures.value ∙ c.if-not-is_ascii_digit.true)
