@@ -40,7 +40,8 @@ def test_errors():
             continue
         error = errors.error_of_status(status, None)
         assert type(error).__name__ == "".join(map(str.title, name.split("_"))) + "Error" and error.status == status
-        assert str(errors.error_of_status(status, "this")) == ("this" if status in (1, 5) else str(error))
+        told = {1: "this", 2: f"{error}: this", 5: "this"}
+        assert str(errors.error_of_status(status, "this")) == told.get(status, str(error))
 
 
 def test_numbers():
@@ -49,7 +50,7 @@ def test_numbers():
 
 def test_calls_of_the_header():
     """The sources of the compiled module call nothing of the library that the header lacks, and name no format of theirs."""
-    declared = set(re.findall(r"^kc_status (kc_\w+)\(", header(), re.M))
+    declared = set(re.findall(r"^(?:kc_status |const char \*)(kc_\w+)\(", header(), re.M))
     folder = os.path.join(TOP, "bindings", "python", "native")
     text = "".join(open(os.path.join(folder, it), encoding="utf-8").read() for it in sorted(os.listdir(folder)))
     called = set(re.findall(r"\b(kc_\w+)\(", re.sub(r"/\*.*?\*/", "", text, flags=re.S)))
