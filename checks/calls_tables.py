@@ -374,6 +374,10 @@ class State:
     def do_image(self):
         return self.shown.image().hex(), "+"
 
+    def do_preamble(self):
+        image = self.shown.image()
+        return image[: 8 * (image[0] & 0x3F)].hex(), "0"
+
     def do_image_with(self, capacity):
         if number(capacity) > 65535:
             raise Unknown

@@ -8,7 +8,7 @@ use calls_language::shown::{places_of, put_decimal, put_metadata, put_same, put_
 use calls_language::words::{Fault, number};
 use sketch_base::{Error, Family};
 use std::alloc::{AllocError, Allocator};
-use theta_core::image::{ImageEntry, write_image, write_image_with_capacity};
+use theta_core::image::{ImageEntry, image_preamble, write_image, write_image_with_capacity};
 use theta_core::{
     CompactSketchState, EntryIter, EntrySketch, HashIter, KeySketch, SketchView, compact_decimal,
     compact_fraction,
@@ -127,6 +127,11 @@ pub fn write<E: ShownEntry + ImageEntry<A>, A: Allocator + Copy + Drop>(
 ) -> Result<bool, Fault> {
     let image = match (call.verb, call.argument) {
         ("image", "") => write_image(alloc, state, family, kind)?,
+        ("preamble", "") => {
+            let (bytes, length) = image_preamble(state, family, kind);
+            put_hex(answer, &bytes[..length])?;
+            return Ok(true);
+        }
         ("image_with", room) => {
             write_image_with_capacity(alloc, state, family, kind, room_of(room)?)?
         }

@@ -1,7 +1,7 @@
 -- The value of a hash table, its laws and its sizes.
 use Rattle.std.specs.Prelude.{ℕ, ◌<◌, ◌≤◌, ◌≡◌, ◌==◌, ◌+◌, ◌-◌, ◌*◌, ◌/◌, ◌%◌, ◌^◌, ◌&&◌, ◌||◌, ◌⊎◌, true, false}
 use Rattle.std.specs.Prelude.{List, [], nat_lt, nat_le, min, Bool, if◌then◌else◌, Option, length, is_some, IsTrue}
-use Rattle.std.specs.Prelude.{Result, IfOk, OnErr}
+use Rattle.std.specs.Prelude.{Result, IfOk, OnOk, OnErr, IsOk, None}
 use Rattle.std.specs.Int.Count.{count_leading_zeros}
 use Rattle.std.specs.List.{concat}
 use Rattle.sketch_base.specs.Seed.{seed_hash, hash_of}
@@ -11,11 +11,10 @@ use Rattle.core_laws.specs.Cuts.{Retained, cut, none_below, IsRetained}
 use Rattle.core_laws.specs.Maps.{entry_at}
 use Rattle.core_laws.specs.Entries.{hash_key, hash_step}
 use Rattle.core_laws.specs.Insertion.{is_screened, creates, after_upsert, after_upserts, upsert_allocates}
-use Rattle.core_laws.specs.Insertion.{RefusesAsStep}
+use Rattle.core_laws.specs.Insertion.{RefusesAsStep, RefusesUpsert}
 use Rattle.core_laws.specs.Parts.{StopsAt}
+use Rattle.core_laws.specs.Refusal.{Refuses}
 use Rattle.core_laws.specs.Step.{Step}
-use Rattle.core_slots.specs.Entry.{tuple_key, entry_step}
-use Rattle.core_slots.specs.declared.entry.TupleEntry.{TupleEntry}
 use Rattle.core_table.specs.declared.insertion.Counts.{Counts}
 use Rattle.core_slots.specs.SlotLayout.{filled, IsLaidOut}
 
@@ -92,14 +91,6 @@ creates_hash hash v = creates hash_key hash (hash_step hash) v
 -- whether inserting a hash may allocate
 abbrev pub hash_allocates : (hash : ℕ) → Retained ℕ → Bool
 hash_allocates hash v = upsert_allocates hash_key hash (hash_step hash) v
-
--- a table of tuples after an insertion of a hash with a step on its summary
-abbrev pub after_tuple : {S : Type 0} → (hash : ℕ) → Step S → MapTable (TupleEntry S) → MapTable (TupleEntry S)
-after_tuple hash step t = after_insertion tuple_key hash (entry_step hash step) t
-
--- whether an insertion with a step on a summary makes an entry
-abbrev pub creates_tuple : {S : Type 0} → (hash : ℕ) → Step S → Retained (TupleEntry S) → Bool
-creates_tuple hash step v = creates tuple_key hash (entry_step hash step) v
 
 -- a table trimmed to its nominal entries
 abbrev pub trimmed_table : {X : Type 0} → (key : X → ℕ) → MapTable X → MapTable X
@@ -275,6 +266,24 @@ IsBelowThreshold t = length t.map.kept.entries < threshold t.layout.lg_cur t.map
 -- below the threshold an insertion is refused only as its step is: for memory only if the step may allocate
 abbrev pub RefusesBelowThreshold : {T X : Type 0} → Result T ErrorKind → (key : X → ℕ) → ℕ → Step X → Table X → Type 0
 RefusesBelowThreshold r key hash step t = IsBelowThreshold t → RefusesAsStep r key hash step t.map.kept
+
+-- what an insertion of a hash with a step answers, and what it makes of a table's map: whether it made an entry, the map
+-- after it, that nothing changes if it is refused, what it is refused for, and that below the threshold it is refused memory
+-- only if its step may allocate
+pub record Inserts {X : Type 0} (key : X → ℕ) (hash : ℕ) (step : Step X) (old : Table X) (result : Result Bool ErrorKind) (new : Table X) : Type 0 where
+  pub ok : IfOk result (λ created. created ≡ creates key hash step old.map.kept)
+  pub after : OnOk result (new.map ≡ after_insertion key hash step old.map)
+  pub err : OnErr result (new.map ≡ old.map)
+  pub refused : RefusesUpsert result key hash step old.map.kept
+  pub memory : RefusesBelowThreshold result key hash step old
+
+-- the same of a hash that is its own entry: nothing but memory is refused, and that only to a new hash below theta
+pub record InsertsHash (hash : ℕ) (old : Table ℕ) (result : Result Bool ErrorKind) (new : Table ℕ) : Type 0 where
+  pub ok : IfOk result (λ created. created ≡ creates_hash hash old.map.kept)
+  pub after : OnOk result (new.map ≡ after_hash hash old.map)
+  pub err : OnErr result (new.map ≡ old.map)
+  pub refused : Refuses result None (hash_allocates hash old.map.kept)
+  pub memory : IsBelowThreshold old → IsOk result
 
 -- the laws of every table, its stored threshold and the counts of its work
 pub record IsProbing {X : Type 0} (key : X → ℕ) (t : MapTable X) (lg_cur grow most count : ℕ) (slots : List (Option X)) (done : Counts) : Type 0 where

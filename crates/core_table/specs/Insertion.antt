@@ -1,12 +1,13 @@
 -- A new entry and the free slot where the search for it ended.
-use Rattle.std.specs.Prelude.{ℕ, ◌<◌, ◌≡◌, ◌+◌, ◌^◌, List, Option, Some, length, min, set}
+use Rattle.std.specs.Prelude.{ℕ, ◌<◌, ◌≡◌, ◌+◌, ◌-◌, ◌^◌, List, Option, Some, length, map, min, set, Result, IfOk, OnOk, OnErr}
 use Rattle.std.specs.List.{AllByRecursion}
 use Rattle.core_laws.specs.Cuts.{Retained, cut}
 use Rattle.core_laws.specs.Insertion.{rebuilt}
 use Rattle.core_laws.specs.Maps.{map_of, with_entry}
-use Rattle.core_slots.specs.SlotLayout.{filled, slot, slot_map}
-use Rattle.core_slots.specs.Placing.{IsFreeFor}
-use Rattle.core_table.specs.HashTable.{threshold, HasSize}
+use Rattle.core_slots.specs.SlotLayout.{filled, slot, slot_map, entries_in, IsLaidOut}
+use Rattle.core_slots.specs.Placing.{IsFreeFor, LooksAtPlaced, LooksForEach}
+use Rattle.core_table.specs.HashTable.{threshold, HasSize, size_after, count_after, ticked}
+use Rattle.core_table.specs.declared.insertion.Counts.{Counts}
 use Rattle.core_table.specs.declared.insertion.Sizes.{Sizes}
 
 -- slots of these sizes, with their entries below theta, have a free slot for the entry, which may be retained
@@ -42,3 +43,19 @@ IsCutOf key nominal xs kept = (t : ℕ) → AllByRecursion (λ x. key x < t) xs 
 -- the entry in a slot was written, and the other slots are as they were
 abbrev pub IsWritten : {X : Type 0} → (at : ℕ) → (writes : X → X) → (old new : List (Option X)) → Type 0
 IsWritten {X} at writes old new = (x : X) → slot old at ≡ Some x → new ≡ set old at (Some (writes x))
+
+-- what putting an entry into slots of these sizes makes of them: the slots, their new sizes and what is retained by them, what
+-- is counted, and what stays if memory is refused
+pub record Puts {S X E : Type 0} (key : X → ℕ) (content : S → Option X) (sizes : Sizes) (entry : X) (old : List S) (before : Counts) (result : Result Sizes E) (new : List S) (done : Counts) : Type 0 where
+  pub laid_out : IfOk result (λ s. IsLaidOut key s.lg_cur (map content new))
+  pub counted : IfOk result (λ s. s.count ≡ length (entries_in content new))
+  pub after : IfOk result (λ s. kept_in key content new s.theta ≡ after_put key sizes (slot_map key content old) entry)
+  pub sized : IfOk result (λ s. HasSize s.lg_cur sizes.lg_nom sizes.grow s.count)
+  pub size : IfOk result (λ s. s.lg_cur ≡ size_after sizes.lg_cur sizes.lg_nom sizes.grow sizes.count)
+  pub most : IfOk result (λ s. s.most ≡ threshold s.lg_cur sizes.lg_nom)
+  pub count : IfOk result (λ s. s.count ≡ count_after sizes.lg_cur sizes.lg_nom sizes.count)
+  pub err : OnErr result (new ≡ old)
+  pub looks : LooksAtPlaced (done.placed - before.placed) before.looks done.looks
+  pub looked : LooksForEach (done.placed - before.placed) before.looks done.looks
+  pub ticked : OnOk result (done ≡ record (ticked sizes.lg_cur sizes.lg_nom sizes.count before) { looks = done.looks })
+  pub unticked : OnErr result (done ≡ record before { looks = done.looks })

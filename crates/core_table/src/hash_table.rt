@@ -14,16 +14,15 @@ ghost use Rattle.core_laws.specs.Settings.{settings_refusal};
 ghost use Rattle.core_table.specs.HashTable.{Table, IsTable, IsSized, IsSeedHash, empty_table, set_table};
 ghost use Rattle.core_table.specs.HashTable.{after_reset, after_hashes, lg_size_for, whole_log, has_room};
 ghost use Rattle.core_table.specs.HashTable.{may_insert, threshold, sub_multiple, slots_of_operator, nothing_done};
-ghost use Rattle.core_table.specs.HashTable.{ticked, key_hash, after_insertion, after_hash, creates_hash};
-ghost use Rattle.core_table.specs.HashTable.{hash_allocates, after_tuple, creates_tuple, trimmed_table, cut_table};
+ghost use Rattle.core_table.specs.HashTable.{ticked, key_hash, after_insertion, trimmed_table, cut_table};
 ghost use Rattle.core_table.specs.HashTable.{StopsAtMemory, counts_after, lg_cur_after, counts_after_trim};
-ghost use Rattle.core_table.specs.HashTable.{IsBelowThreshold, RefusesBelowThreshold, Works};
+ghost use Rattle.core_table.specs.HashTable.{Inserts, InsertsHash, Works};
 ghost use Rattle.core_table.specs.ResizeFactor.{lg_of};
 ghost use Rattle.core_slots.specs.SlotLayout.{filled, slot, is_other, IsOnPath, IsLaidOut, entries_in, slot_map};
 ghost use Rattle.core_slots.specs.Placing.{LooksForEach, LooksAtPlaced};
 ghost use Rattle.core_slots.specs.Entry.{tuple_key, entry_step};
 ghost use Rattle.core_table.specs.declared.hash_table.TheConstants.{BLOCK};
-ghost use Rattle.core_laws.specs.Insertion.{IsRedundant, Drops, creates, is_screened, upsert_refusal, RefusesUpsert};
+ghost use Rattle.core_laws.specs.Insertion.{IsRedundant, Drops, is_screened, upsert_refusal};
 ghost use Rattle.core_slots.specs.declared.slots.TheConstants.{NEAR};
 ghost use Rattle.core_table.specs.Filling.{IsFill};
 ghost use Rattle.sketch_base.specs.declared.error.ErrorKind.TheVariants.{OutOfMemory};
@@ -399,11 +398,7 @@ impl<E: SlotEntry + Drop, A: Allocator + Clone> SketchHashTable<E, A> {
         requires keeps_hash { (x : E) → E.key x ≡ hash → E.key ((S.means step).writes x) ≡ hash }
         requires makes_hash { ForSome (S.means step).makes (λ x. E.key x ≡ hash) }
         requires room { IsTrue (may_insert E.key hash self.old.map) }
-        ensures ok { IfOk result (λ created. created ≡ creates E.key hash (S.means step) self.old.map.kept) }
-        ensures after { OnOk result (self.new.map ≡ after_insertion E.key hash (S.means step) self.old.map) }
-        ensures err { OnErr result (self.new.map ≡ self.old.map) }
-        ensures refused { RefusesUpsert result E.key hash (S.means step) self.old.map.kept }
-        ensures memory { RefusesBelowThreshold result E.key hash (S.means step) self.old }
+        ensures inserts { Inserts E.key hash (S.means step) self.old result self.new }
         ensures seldom { (self.new.counts.rebuilds ≡ self.old.counts.rebuilds)
             ⊎ (7 * 2 ^ self.old.map.lg_nom < 8 * (self.old.counts.fresh + 1)) }
         ensures works { Works hash self.old result self.new }
@@ -433,11 +428,7 @@ impl<E: SlotEntry + Drop, A: Allocator + Clone> SketchHashTable<E, A> {
         requires on_path { IsOnPath E.key self.old.layout.lg_cur self.old.layout.slots hash place.at }
         requires ends { is_other E.key hash (slot self.old.layout.slots place.at) ≡ false }
         requires is_free { place.is_free ≡ is_none (slot self.old.layout.slots place.at) }
-        ensures ok { IfOk result (λ created. created ≡ creates E.key hash (S.means step) self.old.map.kept) }
-        ensures after { OnOk result (self.new.map ≡ after_insertion E.key hash (S.means step) self.old.map) }
-        ensures err { OnErr result (self.new.map ≡ self.old.map) }
-        ensures refused { RefusesUpsert result E.key hash (S.means step) self.old.map.kept }
-        ensures memory { RefusesBelowThreshold result E.key hash (S.means step) self.old }
+        ensures inserts { Inserts E.key hash (S.means step) self.old result self.new }
         ensures ticked { IfOk result (λ created.
             self.new.counts ≡ record (counts_after self.old created) { looks = self.new.counts.looks }) }
         ensures unticked { OnErr result (self.new.counts ≡ record self.old.counts { looks = self.new.counts.looks }) }
@@ -751,14 +742,7 @@ impl<A: Allocator + Clone> SketchHashTable<ThetaEntry, A> {
     pub fn try_insert<T: Hash + Drop>(&mut self, value: T) -> Result<bool, Error>
         requires room { let h = key_hash self.old.map (T.hash_input value) in
             IsTrue (may_insert hash_key h self.old.map) }
-        ensures ok { let h = key_hash self.old.map (T.hash_input value) in
-            IfOk result (λ created. created ≡ creates_hash h self.old.map.kept) }
-        ensures after { let h = key_hash self.old.map (T.hash_input value) in
-            OnOk result (self.new.map ≡ after_hash h self.old.map) }
-        ensures err { OnErr result (self.new.map ≡ self.old.map) }
-        ensures refused { let h = key_hash self.old.map (T.hash_input value) in
-            Refuses result None (hash_allocates h self.old.map.kept) }
-        ensures memory { IsBelowThreshold self.old → IsOk result }
+        ensures inserts { InsertsHash (key_hash self.old.map (T.hash_input value)) self.old result self.new }
         ensures works { Works (key_hash self.old.map (T.hash_input value)) self.old result self.new }
     {
         let hash = self.hash(value);
@@ -772,11 +756,7 @@ impl<A: Allocator + Clone> SketchHashTable<ThetaEntry, A> {
     #[inline(always)]
     pub fn try_insert_hash(&mut self, hash: u64) -> Result<bool, Error>
         requires room { IsTrue (may_insert hash_key hash self.old.map) }
-        ensures ok { IfOk result (λ created. created ≡ creates_hash hash self.old.map.kept) }
-        ensures after { OnOk result (self.new.map ≡ after_hash hash self.old.map) }
-        ensures err { OnErr result (self.new.map ≡ self.old.map) }
-        ensures refused { Refuses result None (hash_allocates hash self.old.map.kept) }
-        ensures memory { IsBelowThreshold self.old → IsOk result }
+        ensures inserts { InsertsHash hash self.old result self.new }
         ensures works { Works hash self.old result self.new }
     {
         self.upsert_entry(hash, PutStep::new(ThetaEntry::of_hash(hash)))
@@ -786,7 +766,8 @@ impl<A: Allocator + Clone> SketchHashTable<ThetaEntry, A> {
     /// every table of `new`.
     ///
     /// In a table of at least 2^17 slots it looks at those of up to 256 hashes side by side, so that the waits for
-    /// memory overlap: if most hashes are retained, this takes half the time. Those looks aren't counted.
+    /// memory overlap: if most hashes are retained, this takes half the time. Those looks aren't counted. If most
+    /// hashes of a block are new, the next seven blocks are inserted without it.
     ///
     /// Refused with `OutOfMemory` alone, and only at a new hash below theta; then exactly the hashes before that one
     /// have been inserted, and the same call may be made again.
@@ -798,17 +779,19 @@ impl<A: Allocator + Clone> SketchHashTable<ThetaEntry, A> {
         ensures looks_kept { self.old.counts.looks ≤ self.new.counts.looks }
     {
         let mut rest = hashes;
+        let mut plain = 0u8;
         while !rest.is_empty() {
             let (block, others) = rest.split_at(rest.len().min(BLOCK));
-            self.insert_block(block)?;
+            plain = self.insert_block(block, plain)?;
             rest = others;
         }
         Ok(())
     }
 
-    /// Inserts a block of hashes in their order. Slots that a cache of the processor holds are looked at one after
-    /// another: there are no waits that could overlap.
-    fn insert_block(&mut self, hashes: &[u64]) -> Result<(), Error>
+    /// Inserts a block of hashes in their order: one by one if `plain` isn't 0, or if a cache of the processor holds
+    /// the slots, so that there are no waits that could overlap. Returns how many blocks from the next one on are
+    /// best inserted one by one.
+    fn insert_block(&mut self, hashes: &[u64], plain: u8) -> Result<u8, Error>
         requires room { 3 ≤ self.old.map.lg_nom }
         requires limited { length hashes.now ≤ BLOCK }
         ensures after { OnOk result (self.new.map ≡ after_hashes hashes.now self.old.map) }
@@ -816,15 +799,16 @@ impl<A: Allocator + Clone> SketchHashTable<ThetaEntry, A> {
         ensures refused { Refuses result None true }
         ensures looks_kept { self.old.counts.looks ≤ self.new.counts.looks }
     {
-        if self.lg_cur_size < LG_MANY_SLOTS {
-            self.insert_each(hashes)
-        } else {
-            self.insert_unfound(hashes)
+        if plain == 0 && self.lg_cur_size >= LG_MANY_SLOTS {
+            return self.insert_unfound(hashes);
         }
+        self.insert_each(hashes)?;
+        Ok(plain.saturating_sub(1))
     }
 
-    /// Inserts a block of hashes in their order, after dropping those that are screened or found at once.
-    fn insert_unfound(&mut self, hashes: &[u64]) -> Result<(), Error>
+    /// Inserts a block of hashes in their order, after dropping those that are screened or found at once. Returns how
+    /// many blocks from the next one on are best inserted one by one: some if most of these hashes were new.
+    fn insert_unfound(&mut self, hashes: &[u64]) -> Result<u8, Error>
         requires room { 3 ≤ self.old.map.lg_nom }
         requires limited { length hashes.now ≤ BLOCK }
         ensures after { OnOk result (self.new.map ≡ after_hashes hashes.now self.old.map) }
@@ -834,7 +818,12 @@ impl<A: Allocator + Clone> SketchHashTable<ThetaEntry, A> {
     {
         let mut block = [0u64; BLOCK];
         let left = self.copy_unfound(hashes, &mut block);
-        self.insert_each(&block[..left])
+        self.insert_each(&block[..left])?;
+        Ok(if left > hashes.len() / 2 {
+            PLAIN_BLOCKS
+        } else {
+            0
+        })
     }
 
     /// Copies into `block` the hashes that are neither screened nor found at once, in their order, and returns how
@@ -893,15 +882,8 @@ impl<S: Drop, A: Allocator + Clone> SketchHashTable<TupleEntry<S>, A> {
     ) -> Result<bool, Error>
         requires room { let h = key_hash self.old.map (T.hash_input key) in
             IsTrue (may_insert tuple_key h self.old.map) }
-        ensures ok { let h = key_hash self.old.map (T.hash_input key) in
-            IfOk result (λ created. created ≡ creates_tuple h (U.means step) self.old.map.kept) }
-        ensures after { let h = key_hash self.old.map (T.hash_input key) in
-            OnOk result (self.new.map ≡ after_tuple h (U.means step) self.old.map) }
-        ensures err { OnErr result (self.new.map ≡ self.old.map) }
-        ensures refused { let h = key_hash self.old.map (T.hash_input key) in
-            RefusesUpsert result tuple_key h (entry_step h (U.means step)) self.old.map.kept }
-        ensures memory { let h = key_hash self.old.map (T.hash_input key) in
-            RefusesBelowThreshold result tuple_key h (entry_step h (U.means step)) self.old }
+        ensures inserts { let h = key_hash self.old.map (T.hash_input key) in
+            Inserts tuple_key h (entry_step h (U.means step)) self.old result self.new }
         ensures works { Works (key_hash self.old.map (T.hash_input key)) self.old result self.new }
     {
         let hash = self.hash(key);
@@ -920,11 +902,7 @@ impl<S: Drop, A: Allocator + Clone> SketchHashTable<TupleEntry<S>, A> {
         step: U,
     ) -> Result<bool, Error>
         requires room { IsTrue (may_insert tuple_key hash self.old.map) }
-        ensures ok { IfOk result (λ created. created ≡ creates_tuple hash (U.means step) self.old.map.kept) }
-        ensures after { OnOk result (self.new.map ≡ after_tuple hash (U.means step) self.old.map) }
-        ensures err { OnErr result (self.new.map ≡ self.old.map) }
-        ensures refused { RefusesUpsert result tuple_key hash (entry_step hash (U.means step)) self.old.map.kept }
-        ensures memory { RefusesBelowThreshold result tuple_key hash (entry_step hash (U.means step)) self.old }
+        ensures inserts { Inserts tuple_key hash (entry_step hash (U.means step)) self.old result self.new }
         ensures works { Works hash self.old result self.new }
     {
         self.upsert_entry(hash, EntryStep::new(hash, step))
@@ -939,6 +917,9 @@ const BLOCK: usize = 256;
 
 /// From this logarithm of the number of slots on (2^17 take a MiB) hashes are looked up together.
 const LG_MANY_SLOTS: u8 = 17;
+
+/// How many blocks are inserted one by one after a block of which most hashes were new.
+const PLAIN_BLOCKS: u8 = 7;
 
 /// How many sixteenths of its slots a table fills before it is rebuilt.
 const FILLED_SIXTEENTHS: u128 = 15;

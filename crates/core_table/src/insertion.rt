@@ -6,9 +6,8 @@ ghost use Rattle.core_laws.specs.Maps.{with_entry};
 ghost use Rattle.core_laws.specs.Refusal.{Refuses};
 ghost use Rattle.core_slots.specs.SlotLayout.{slot, IsLaidOut, entries_in, slot_map};
 ghost use Rattle.core_slots.specs.Placing.{LooksForEach, LooksAtPlaced};
-ghost use Rattle.core_table.specs.HashTable.{threshold, HasSize, sub_multiple, ticked, ticked_if, size_after};
-ghost use Rattle.core_table.specs.HashTable.{count_after};
-ghost use Rattle.core_table.specs.Insertion.{HasPlaceFor, kept_in, after_put, grown, IsCutOf, IsWritten};
+ghost use Rattle.core_table.specs.HashTable.{threshold, HasSize, sub_multiple, ticked_if};
+ghost use Rattle.core_table.specs.Insertion.{HasPlaceFor, Puts, kept_in, after_put, grown, IsCutOf, IsWritten};
 
 use core_laws::{MIN_LG_K, MIN_LG_SLOTS};
 use core_slots::{Count, SlotEntry, UpsertStep, hash_of_rank, keep_below, put_kept, put_spread};
@@ -122,23 +121,8 @@ pub(crate) fn put_entry<E: SlotEntry + Drop, A: Allocator + Clone>(
     requires place { HasPlaceFor E.key (map E.content slots.old.items) sizes at entry }
     requires room { sizes.lg_nom < 3 → sizes.count + 1 < 2 ^ sizes.lg_cur }
     requires inside { at < length slots.old.items }
-    ensures laid_out { IfOk result (λ s. IsLaidOut E.key s.lg_cur (map E.content slots.new.items)) }
-    ensures counted { IfOk result (λ s. s.count ≡ length (entries_in E.content slots.new.items)) }
-    ensures after { IfOk result (λ s.
-        kept_in E.key E.content slots.new.items s.theta
-        ≡ after_put E.key sizes (slot_map E.key E.content slots.old.items) entry) }
-    ensures sized { IfOk result (λ s. HasSize s.lg_cur sizes.lg_nom sizes.grow s.count) }
-    ensures size { IfOk result (λ s. s.lg_cur ≡ size_after sizes.lg_cur sizes.lg_nom sizes.grow sizes.count) }
-    ensures most { IfOk result (λ s. s.most ≡ threshold s.lg_cur sizes.lg_nom) }
-    ensures count { IfOk result (λ s. s.count ≡ count_after sizes.lg_cur sizes.lg_nom sizes.count) }
+    ensures puts { Puts E.key E.content sizes entry slots.old.items counts.old result slots.new.items counts.new }
     ensures room { sizes.count < threshold sizes.lg_cur sizes.lg_nom → IsOk result }
-    ensures err { OnErr result (slots.new.items ≡ slots.old.items) }
-    ensures looks { LooksAtPlaced (counts.new.placed - counts.old.placed) counts.old.looks counts.new.looks }
-    ensures looked { LooksForEach (counts.new.placed - counts.old.placed) counts.old.looks counts.new.looks }
-    ensures ticked { OnOk result
-        (counts.new
-        ≡ record (ticked sizes.lg_cur sizes.lg_nom sizes.count counts.old) { looks = counts.new.looks }) }
-    ensures unticked { OnErr result (counts.new ≡ record counts.old { looks = counts.new.looks }) }
 {
     let more = sizes.count + 1;
     if more <= sizes.most {
@@ -168,22 +152,7 @@ fn overflow<E: SlotEntry + Drop, A: Allocator + Clone>(
     requires room { sizes.lg_nom < 3 → sizes.count + 1 < 2 ^ sizes.lg_cur }
     requires inside { at < length slots.old.items }
     requires full { threshold sizes.lg_cur sizes.lg_nom < sizes.count + 1 }
-    ensures laid_out { IfOk result (λ s. IsLaidOut E.key s.lg_cur (map E.content slots.new.items)) }
-    ensures counted { IfOk result (λ s. s.count ≡ length (entries_in E.content slots.new.items)) }
-    ensures after { IfOk result (λ s.
-        kept_in E.key E.content slots.new.items s.theta
-        ≡ after_put E.key sizes (slot_map E.key E.content slots.old.items) entry) }
-    ensures sized { IfOk result (λ s. HasSize s.lg_cur sizes.lg_nom sizes.grow s.count) }
-    ensures size { IfOk result (λ s. s.lg_cur ≡ size_after sizes.lg_cur sizes.lg_nom sizes.grow sizes.count) }
-    ensures most { IfOk result (λ s. s.most ≡ threshold s.lg_cur sizes.lg_nom) }
-    ensures count { IfOk result (λ s. s.count ≡ count_after sizes.lg_cur sizes.lg_nom sizes.count) }
-    ensures err { OnErr result (slots.new.items ≡ slots.old.items) }
-    ensures looks { LooksAtPlaced (counts.new.placed - counts.old.placed) counts.old.looks counts.new.looks }
-    ensures looked { LooksForEach (counts.new.placed - counts.old.placed) counts.old.looks counts.new.looks }
-    ensures ticked { OnOk result
-        (counts.new
-        ≡ record (ticked sizes.lg_cur sizes.lg_nom sizes.count counts.old) { looks = counts.new.looks }) }
-    ensures unticked { OnErr result (counts.new ≡ record counts.old { looks = counts.new.looks }) }
+    ensures puts { Puts E.key E.content sizes entry slots.old.items counts.old result slots.new.items counts.new }
 {
     let full = sizes;
     if full.lg_cur <= full.lg_nom {

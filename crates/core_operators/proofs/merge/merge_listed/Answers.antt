@@ -100,9 +100,9 @@ pub returns-in_err-upsert_entry-clause-refused : goal.returns-in_err-upsert_entr
 returns-in_err-upsert_entry-clause-refused g c =
     let it = next g (goal.at.returns-in_err-upsert_entry-clause-refused g c).In_ok-refill _ _ _ c.in-Some-split_first.ensures.cases.0 c.hash.ensures in
     let p = err_from_is_err_and c.from_residual-in_err-upsert_entry.result c.from_residual-in_err-upsert_entry.ensures.1 in
-    rw (p.1, p.2) (it.refused _ (elim c.in_err-upsert_entry.ensures.refused [ inl r ↦ inl r | inr o ↦ inr o.0 ]))
+    rw (p.1, p.2) (it.refused _ (elim c.in_err-upsert_entry.ensures.inserts.refused [ inl r ↦ inl r | inr o ↦ inr o.0 ]))
 
 pub rounds-preserved : goal.rounds-preserved
 rounds-preserved g c =
     let it = next g (goal.at.rounds-preserved g c).In_ok-refill _ _ _ c.in-Some-split_first.ensures.cases.0 c.hash.ensures in
-    it.merged _ c.in_ok-upsert_entry.ensures.after c.in_ok-upsert_entry.ensures.refused
+    it.merged _ c.in_ok-upsert_entry.ensures.inserts.after c.in_ok-upsert_entry.ensures.inserts.refused

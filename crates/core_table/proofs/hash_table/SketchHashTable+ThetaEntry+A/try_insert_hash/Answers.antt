@@ -16,13 +16,15 @@ succeeds : {T : Type 0} (r : Result T ErrorKind) (b : Bool) → Refuses r None (
 succeeds (Ok x) b is = refl
 succeeds (Err e) b is = elim is [ inl never ↦ absurd (cc) | inr taken ↦ absurd (let z = and_false b taken.1 in cc) ]
 
-pub returns-clause-refused : goal.returns-clause-refused
-returns-clause-refused g c =
+pub returns-clause-inserts : goal.returns-clause-inserts
+returns-clause-inserts g c =
     let never = never_refused hash_key 0 c.args.hash (hash_step c.args.hash) c.args.self.now.map.kept (λ _. refl) refl in
-    rw (c.new.ensures, c.of_hash.ensures, never) at c.upsert_entry.ensures.refused
-
-pub returns-clause-memory : goal.returns-clause-memory
-returns-clause-memory g c =
-    let never = never_refused hash_key 0 c.args.hash (hash_step c.args.hash) c.args.self.now.map.kept (λ _. refl) refl in
-    let memory = rw (c.new.ensures, c.of_hash.ensures, never) at c.upsert_entry.ensures.memory in
-    λ low. succeeds c.upsert_entry.result (not (is_screened c.args.hash c.args.self.now.map.kept.theta)) (memory low)
+    let is = rw (c.new.ensures, c.of_hash.ensures) at c.upsert_entry.ensures.inserts in
+    let memory = rw (never) at is.memory in
+    record {
+      ok = is.ok;
+      after = is.after;
+      err = is.err;
+      refused = rw (never) at is.refused;
+      memory = λ low. succeeds c.upsert_entry.result (not (is_screened c.args.hash c.args.self.now.map.kept.theta)) (memory low);
+    }

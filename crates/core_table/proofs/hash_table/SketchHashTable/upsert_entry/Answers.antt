@@ -8,17 +8,14 @@ use Rattle.core_table.proofs.hash_table.SketchHashTable.upsert_entry.Goals as go
 screened : (g : Over) (c : goal.After-drop-step g) → IsCase g.E.SketchEntry.key (2 ^ c.args.self.now.map.lg_nom) c.args.hash (g.S.UpsertStep.means c.args.step) c.args.self.now.map.kept false c.args.self.now.map.kept None false
 screened g c = rw (← c.self.view_is) (screened_case _ _ _ _ _ (is_screened_true _ _ (elim c.then-hash-self.either [ inl high ↦ inr high | inr zero ↦ inl zero.1 ])))
 
-pub returns-then-hash-self-clause-ok : goal.returns-then-hash-self-clause-ok
-returns-then-hash-self-clause-ok g c = sym (screened g c).creates_is
-
-pub returns-then-hash-self-clause-after : goal.returns-then-hash-self-clause-after
-returns-then-hash-self-clause-after g c = rw (screened g c).after_is refl
-
-pub returns-then-hash-self-clause-refused : goal.returns-then-hash-self-clause-refused
-returns-then-hash-self-clause-refused g c = (screened g c).refusal_is
-
-pub returns-then-hash-self-clause-memory : goal.returns-then-hash-self-clause-memory
-returns-then-hash-self-clause-memory g c = λ _. (screened g c).refusal_is
+pub returns-then-hash-self-clause-inserts : goal.returns-then-hash-self-clause-inserts
+returns-then-hash-self-clause-inserts g c = record {
+  ok = sym (screened g c).creates_is;
+  after = rw (screened g c).after_is refl;
+  err = tt;
+  refused = (screened g c).refusal_is;
+  memory = λ _. (screened g c).refusal_is;
+}
 
 pub returns-then-hash-self-clause-works : goal.returns-then-hash-self-clause-works
 returns-then-hash-self-clause-works g c = record {
