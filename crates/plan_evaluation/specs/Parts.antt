@@ -1,13 +1,15 @@
 -- The result of a node of a plan, in any family: a leaf that an operator sees as it is, or a compact sketch.
-use Rattle.std.specs.Prelude.{ℕ, ◌≡◌, ◌||◌, ◌^◌, Bool, true, false, List, [], ◌∷◌, Option, Some, None}
+use Rattle.std.specs.Prelude.{ℕ, ◌≡◌, ◌||◌, ◌^◌, Bool, true, false, List, [], ◌∷◌, Option, Some, None, option_map}
 use Rattle.core_compact.specs.CompactState.{Compact as State, IsAnswer, compact_value}
 use Rattle.core_laws.specs.Folds.{Fold, unmarked_value}
-use Rattle.core_laws.specs.Operators.{unite}
+use Rattle.core_laws.specs.Operators.{unite, meet_next}
 use Rattle.core_laws.specs.Shown.{Shown, shown_value}
 use Rattle.core_laws.specs.Values.{Sketch, Empty, NonEmpty}
 use Rattle.core_state.specs.Updatable.{Updatable, sketch_value}
+use Rattle.core_operators.specs.Intersection.{Intersection}
 use Rattle.core_operators.specs.Union.{Union, union_value}
 use Rattle.plan_text.specs.declared.plan.Plan.{Plan}
+use Rattle.plan_evaluation.specs.Refused.{HoldsMore}
 use Rattle.plan_values.specs.Family.{Family}
 use Rattle.plan_values.specs.Outcome.{is_leaf, orders_itself}
 use Rattle.plan_values.specs.Value.{value_in}
@@ -83,3 +85,14 @@ Joins key f old new (NonEmpty v) =
 abbrev pub value_or_empty : {X : Type 0} → Option (Sketch X) → Sketch X
 value_or_empty None = Empty
 value_or_empty (Some v) = v
+
+-- a union merged a part: its value, that its settings stayed, and that it has all below its theta of one whole map more
+pub record JoinsPart {X V : Type 0} (key : X → ℕ) (f : Family (Fold X) V) (before after : List (Fold X) → Type 0) (old new : Union X (Unit {0})) (v : Sketch (Fold X)) : Type 0 where
+  pub value : Joins key f old new v
+  pub made_with : new ≡ record old { empty = new.empty; content = new.content }
+  pub holds : HoldsMore f before after v
+
+-- an intersection met a part: its value, and that its settings stayed
+pub record MeetsPart {X V : Type 0} (f : Family (Fold X) V) (old new : Intersection X (Unit {0})) (v : Sketch (Fold X)) : Type 0 where
+  pub value : option_map unmarked_value new.result ≡ Some (meet_next f.key f.merges (option_map unmarked_value old.result) v)
+  pub made_with : new ≡ record old { result = new.result }

@@ -1,5 +1,5 @@
 //! The calls of a family of sketches that plans need.
-ghost use Rattle.std.specs.Prelude.{◌≡◌, ◌<◌, ◌||◌, ◌^◌, true, false, not, None, Some, [], IfOk, IfErr, OnOk};
+ghost use Rattle.std.specs.Prelude.{◌≡◌, ◌<◌, ◌||◌, ◌^◌, true, false, not, None, [], IfOk, IfErr, OnOk};
 ghost use Rattle.std.specs.Prelude.{option_map};
 ghost use Rattle.sketch_base.specs.Seed.{seed_hash};
 ghost use Rattle.core_compact.specs.CompactState.{IsAnswer};
@@ -7,15 +7,15 @@ ghost use Rattle.core_laws.specs.Settings.{settings_refusal};
 ghost use Rattle.core_table.specs.HashTable.{empty_table, after_reset, after_insertion, trimmed_table};
 ghost use Rattle.core_laws.specs.Folds.{unmarked_value};
 ghost use Rattle.core_laws.specs.Insertion.{upsert_refusal};
-ghost use Rattle.core_laws.specs.Operators.{meet_next, minus};
+ghost use Rattle.core_laws.specs.Operators.{minus};
 ghost use Rattle.core_laws.specs.Refusal.{Refuses};
 ghost use Rattle.core_laws.specs.Values.{cut_value};
 ghost use Rattle.core_state.specs.Updatable.{sketch_value};
 ghost use Rattle.core_operators.specs.Intersection.{new_intersection, seed_refusal, IsAnswerIfAny};
 ghost use Rattle.core_operators.specs.Union.{empty_union, union_value, lower_refusal};
 ghost use Rattle.plan_values.specs.Family.{IsFamily, folds_of};
-ghost use Rattle.plan_evaluation.specs.Parts.{part_result, IsFoldAnswer, Joins};
-ghost use Rattle.plan_evaluation.specs.Refused.{RefusedFor, HoldsMore, MarksJoined, MarksMet};
+ghost use Rattle.plan_evaluation.specs.Parts.{part_result, IsFoldAnswer, JoinsPart, MeetsPart};
+ghost use Rattle.plan_evaluation.specs.Refused.{RefusedFor, MarksJoined, MarksMet};
 
 use crate::evaluated::Evaluated;
 use core_laws::SketchEntry;
@@ -149,14 +149,9 @@ pub trait SketchFamily<A: Allocator> {
         requires at_work { (united union.old).failed ≡ false }
         ensures still { made_union self.now union.new }
         ensures joins { OnOk result (
-            Joins (rules self.now).key (folds_of (rules self.now) (refuses self.now)) (united union.old)
-            (united union.new) (part_result (rules self.now).key state listed part.now).value) }
-        ensures made_with { OnOk result (
-            united union.new
-            ≡ record (united union.old) { empty = (united union.new).empty; content = (united union.new).content }) }
-        ensures holds { OnOk result (
-            HoldsMore (folds_of (rules self.now) (refuses self.now)) (holds self.now union.old)
-            (holds self.now union.new) (part_result (rules self.now).key state listed part.now).value) }
+            JoinsPart (rules self.now).key (folds_of (rules self.now) (refuses self.now)) (holds self.now union.old)
+            (holds self.now union.new) (united union.old) (united union.new)
+            (part_result (rules self.now).key state listed part.now).value) }
         ensures refused { IfErr result (λ e.
             RefusedFor e strict (
             MarksJoined (folds_of (rules self.now) (refuses self.now)) (holds self.now union.old)
@@ -203,13 +198,8 @@ pub trait SketchFamily<A: Allocator> {
             ≡ (part_result (rules self.now).key state listed part.now).seed_hash }
         ensures still { made_intersection self.now intersection.new }
         ensures meets { OnOk result (
-            let f = folds_of (rules self.now) (refuses self.now) in
-            option_map unmarked_value (met intersection.new).result
-            ≡ Some (
-            meet_next f.key f.merges (option_map unmarked_value (met intersection.old).result)
-            (part_result (rules self.now).key state listed part.now).value)) }
-        ensures made_with { OnOk result
-            (met intersection.new ≡ record (met intersection.old) { result = (met intersection.new).result }) }
+            MeetsPart (folds_of (rules self.now) (refuses self.now)) (met intersection.old) (met intersection.new)
+            (part_result (rules self.now).key state listed part.now).value) }
         ensures refused { IfErr result (λ e.
             RefusedFor e strict (
             MarksMet (folds_of (rules self.now) (refuses self.now))

@@ -1,4 +1,4 @@
-use Rattle.std.proofs.Common.{◌≡◌, Some, sym, subst, ◌∙◌}
+use Rattle.std.proofs.Common.{◌≡◌, Some, sym, subst, ◌∙◌, rules}
 use Rattle.std.proofs.lemmas.Result.{err_from_is_err_and}
 use Rattle.std.specs.Option.{option_map}
 use Rattle.core_state.specs.View.{shows, sequence}
@@ -26,4 +26,7 @@ returns-clause-meets g c =
     let old = c.args.intersection.now.state.result in
     let new = c.update.new.self.state.result in
     let met = rw c.requires.own at c.in_ok-update.ensures.met in
-    subst (λ v. option_map unmarked_value new ≡ Some (meet_next (fold_key tuple_key) (fold_merges tuple_key (combined combines) (combine_refused combines)) (option_map unmarked_value old) v)) c.view-shown.ensures.value met
+    record {
+      value = subst (λ v. option_map unmarked_value new ≡ Some (meet_next (fold_key tuple_key) (fold_merges tuple_key (combined combines) (combine_refused combines)) (option_map unmarked_value old) v)) c.view-shown.ensures.value met;
+      made_with = search (rules);
+    }
