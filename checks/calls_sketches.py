@@ -239,6 +239,11 @@ class CompactObject(Shows):
     def do_clone(self):
         return "ok", "+" if self.shown.entries() else ANY
 
+    def do_of_state(self):
+        if self.shown.kind != "theta":
+            raise Unknown
+        return self.do_clone()
+
     def do_read(self, seed):
         if not self.can_write and self.shown.entries():
             return "memory", "+"

@@ -103,7 +103,7 @@ def state_line(chance, is_tuple):
         words = ["empty"]
     if chance.random() < 0.1:
         words.append(f"seed_hash={chance.choice((0, 7))}")
-    names = "see,estimating,capacity,clone,map_same,iterate,hashes,pass 20,rest,fraction,decimal 5,image,image_with 40,view"
+    names = "see,estimating,capacity,clone,map_same,iterate,hashes,pass 20,rest,fraction,decimal 5,image,preamble,image_with 40,view"
     names = names.split(",") if is_tuple else [*names.split(","), "map 7"]
     calls = [chance.choice(names) for _ in range(chance.randrange(1, 6))]
     return " ".join(["tuple_state" if is_tuple else "state", *words]), [*calls, "see"]

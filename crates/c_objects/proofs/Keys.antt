@@ -1,11 +1,9 @@
 -- Images of tuple sketches, and sketches of their keys.
-use Rattle.std.proofs.Common.{◌≡◌, ℕ, ◌+◌, ◌*◌, ◌<◌, ◌^◌, inl, inr, Bool, true, false, cond, List, [], ◌∷◌, ◌++◌, length, map, take, drop, Option, Result, Ok, Err, refl, sym, ap, subst, ◌∙◌, arith, append-nil, get_or, lt-ltb, le-ltb, eq-eqb}
+use Rattle.std.proofs.Common.{◌≡◌, ℕ, ◌+◌, ◌<◌, ◌^◌, inl, inr, Bool, true, false, cond, List, [], ◌∷◌, ◌++◌, length, map, take, drop, Option, Result, Ok, Err, refl, sym, ap, subst, ◌∙◌, arith, append-nil, get_or, lt-ltb, le-ltb, eq-eqb}
 use Rattle.std.proofs.lemmas.Bool.{cases_lt, cases_eq, ne_eqb}
 use Rattle.std.proofs.lemmas.List.{take_more, length-map}
-use Rattle.std.specs.Int.{w16, w32, w64, to_le_bytes}
+use Rattle.std.specs.Int.{w64, to_le_bytes}
 use Rattle.std.specs.List.{flat_map}
-use Rattle.std.specs.Prelude.{slice_index_or}
-use Rattle.core_images.specs.Write.{longs_of}
 use Rattle.core_laws.specs.declared.TheConstants.{MAX_THETA}
 use Rattle.core_compact.specs.CompactState.{Compact, IsCompact}
 use Rattle.core_images.specs.Entry.{SpellsHash, SpellsEach, state_after_preamble}
@@ -28,14 +26,12 @@ use Rattle.keys_sketches.specs.Header.{file_flaw, is_hexadecimal}
 use Rattle.keys_sketches.specs.declared.header.Flaw.{Flaw}
 use Rattle.keys_sketches.specs.declared.header.Flaw.TheVariants.{Hexadecimal, Image}
 use Rattle.sketch_base.specs.Seed.{seed_hash}
-use Rattle.theta_sketches.specs.Image.{Reads as ReadsHashes, IsReadable, SpellsSketch, written}
-use Rattle.theta_sketches.proofs.ReadBack.{read_back, spells_again}
 use Rattle.tuple_sketches.specs.Image.{Reads, written as tuples_written}
 use Rattle.tuple_sketches.proofs.ImageLayouts.{layout_from}
 use Rattle.c_objects.specs.Flaws.{IsFinding}
 use Rattle.c_objects.specs.Settings.{order_number}
 use Rattle.c_objects.specs.Status.{IsUnreadStatus, status_of}
-use Rattle.c_objects.specs.Thetas.{state_of, IsReadFrom, IsReadRefusal}
+use Rattle.c_objects.specs.Thetas.{state_of}
 use Rattle.c_objects.specs.Tuples.{tuple_preamble, keys_of, IsLayoutOf, IsLayoutOfKeys, keys_by, state_in, IsNoForm, IsFormOf, IsFormRefusal}
 use Rattle.c_objects.specs.declared.compact.CompactSketch.{CompactSketch}
 use Rattle.c_objects.specs.declared.flaws.Finding.{Finding}
@@ -73,43 +69,6 @@ no_bytes x = []
 no_text : (xs : List ℕ) → flat_map no_bytes xs ≡ []
 no_text [] = refl
 no_text (x ∷ xs) = no_text xs
-
--- the bytes of a preamble of three longs, with the seed hash, the count and theta as bytes
-abbrev pub bytes_of : (longs flags : ℕ) (h c t : List ℕ) → List ℕ
-bytes_of longs flags h c t =
-    longs ∷ 3 ∷ 9 ∷ 1 ∷ 0 ∷ flags ∷ slice_index_or h 0 0 ∷ slice_index_or h 1 0
-    ∷ slice_index_or c 0 0 ∷ slice_index_or c 1 0 ∷ slice_index_or c 2 0 ∷ slice_index_or c 3 0 ∷ 0 ∷ 0 ∷ 0 ∷ 0
-    ∷ slice_index_or t 0 0 ∷ slice_index_or t 1 0 ∷ slice_index_or t 2 0 ∷ slice_index_or t 3 0
-    ∷ slice_index_or t 4 0 ∷ slice_index_or t 5 0 ∷ slice_index_or t 6 0 ∷ slice_index_or t 7 0 ∷ []
-
-module _ (s : Compact ℕ) where
-  abbrev longs_in : ℕ
-  longs_in = cond s.empty 1 (longs_of s)
-
-  abbrev flags_in : ℕ
-  flags_in = cond s.empty 0x1e (cond s.ordered 0x1a 0x0a)
-
-  abbrev seed_in : ℕ
-  seed_in = cond s.empty 0 s.seed_hash
-
-  pub preamble_is : take (8 * longs_in) (bytes_of longs_in flags_in (to_le_bytes w16 seed_in) (to_le_bytes w32 (length s.entries)) (to_le_bytes w64 s.theta)) ≡ tuple_preamble s
-  preamble_is =
-      (elim s.empty as (λ b. s.empty ≡ b → take (8 * longs_in) (bytes_of longs_in flags_in (to_le_bytes w16 seed_in) (to_le_bytes w32 (length s.entries)) (to_le_bytes w64 s.theta)) ≡ tuple_preamble s) [
-        | true ↦ λ e. rw e refl
-        | false ↦ λ e.
-            elim (cases_lt s.theta MAX_THETA) [
-              | inl lt ↦ rw (e, lt-ltb s.theta MAX_THETA lt, no_text s.entries) refl
-              | inr le ↦
-                  elim (cases_eq (length s.entries) 1) [
-                    | inl one ↦ rw (e, le-ltb s.theta MAX_THETA le, eq-eqb (length s.entries) 1 one, no_text s.entries) refl
-                    | inr more ↦ rw (e, le-ltb s.theta MAX_THETA le, ne_eqb (length s.entries) 1 more, no_text s.entries) refl
-                  ]
-            ]
-      ]) refl
-
-  pub preamble_as : (longs flags : ℕ) (h c t : List ℕ) → longs ≡ longs_in → flags ≡ flags_in → h ≡ to_le_bytes w16 seed_in → c ≡ to_le_bytes w32 (length s.entries) → t ≡ to_le_bytes w64 s.theta
-      → take (8 * longs) (bytes_of longs flags h c t) ≡ tuple_preamble s
-  preamble_as longs flags h c t el ef eh ec et = (λ i. take (8 * el i) (bytes_of (el i) (ef i) (eh i) (ec i) (et i))) ∙ preamble_is
 
 module _ {S : Type 0} (text : S → List ℕ) where
   abbrev Begins : Compact (TupleEntry S) → Type 0
@@ -258,30 +217,6 @@ module _ (state : State) (order seed : ℕ) (hashes : List ℕ) where
   refused_keys layout status p (inl memory) = inl memory
   refused_keys layout status p (inr u) = inr (u.0, λ it. u.1 (subst (IsCompact hash_key) (one_form layout it.0 p it.2) it.1))
 
-  seed_of : (layout : ImageLayout) → (keys_by layout (seed_hash seed) hashes).seed_hash ≡ seed_hash seed
-  seed_of Empty = refl
-  seed_of (Filled m) = refl
-
-  module _ (layout : ImageLayout) (keys : Compact ℕ) (image : List ℕ) (is : keys ≡ keys_by layout (seed_hash seed) hashes) (compact : IsCompact hash_key keys) (short : keys.seed_hash < 2 ^ 16) (text : image ≡ written keys) where
-    own_seed : keys.seed_hash ≡ seed_hash seed
-    own_seed = ap (λ (c : Compact ℕ). c.seed_hash) is ∙ seed_of layout
-
-    -- the image is read as these keys
-    pub form_read : (s : CompactSketch) → IsLayoutOf state order (length hashes) layout → IsReadFrom image seed s → IsFormOf state order hashes seed s
-    form_read s p r =
-        let R : List ℕ → Type 0 = λ bytes. ReadsHashes bytes (seed_hash seed) s.sketch in
-        let of_text : ReadsHashes (written keys) (seed_hash seed) s.sketch = subst R text r in
-        let S : ℕ → Type 0 = λ h. ReadsHashes (written keys) h s.sketch in
-        let of_own : ReadsHashes (written keys) keys.seed_hash s.sketch = subst S (sym own_seed) of_text in
-        form_of layout s p (read_back keys s.sketch compact short of_own ∙ is) r.seeded
-
-    again : 0 < seed_hash seed → IsReadable image (seed_hash seed)
-    again low =
-        let own = spells_again keys [] compact short in
-        let R : List ℕ → Type 0 = λ bytes. (h : ℕ) → h ≡ keys.seed_hash → 0 < h → ReadsHashes bytes h keys in
-        let read : R (written keys ++ []) = λ h e nonzero. record { seeded = nonzero; spelled = subst (λ (n : ℕ). SpellsSketch (written keys ++ []) n keys) (sym e) own } in
-        (keys, subst R (append-nil (written keys) ∙ sym text) read (seed_hash seed) (sym own_seed) low)
-
-    pub form_unread : (status : ℕ) → IsReadRefusal image seed status → IsFormRefusal state order hashes seed status
-    form_unread status (inl memory) = inl memory
-    form_unread status (inr u) = inr (u.0, λ it. u.1 (again it.2.4))
+  -- no seed hash is 0
+  pub unseeded : seed_hash seed ≡ 0 → IsFormRefusal state order hashes seed 2
+  unseeded none = inr (refl, λ it. absurd (omega (arith, none, it.2.4)))

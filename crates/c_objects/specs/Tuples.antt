@@ -1,10 +1,10 @@
 -- Images of tuple sketches whose summaries are the caller's, of any length: their preambles, and sketches of their keys.
-use Rattle.std.specs.Prelude.{ℕ, ◌≡◌, ◌<◌, ◌≤◌, List, [], length, map, Option, Result, Ok, Err}
+use Rattle.std.specs.Prelude.{ℕ, ◌≡◌, ◌<◌, ◌≤◌, List, length, map, Option, Result, Ok, Err}
 use Rattle.sketch_base.specs.Seed.{seed_hash}
 use Rattle.core_compact.specs.CompactState.{Compact, IsCompact, empty_compact}
 use Rattle.core_images.specs.Entry.{state_after_preamble}
 use Rattle.core_images.specs.Head.{tuple_head, tuple_layout, length_of, flaw_of_image}
-use Rattle.core_images.specs.Write.{written_image}
+use Rattle.core_images.specs.Write.{written_preamble}
 use Rattle.core_images.specs.declared.flaw.Flaw.{Flaw as ImageFlaw}
 use Rattle.core_images.specs.declared.preamble.ImageLayout.{ImageLayout}
 use Rattle.core_images.specs.declared.preamble.ImageLayout.TheVariants.{Empty, Filled}
@@ -29,7 +29,7 @@ keys_of t =
 
 -- the preamble of the image of a tuple sketch with these keys: that image without the bytes of its entries
 abbrev pub tuple_preamble : Compact ℕ → List ℕ
-tuple_preamble s = written_image (λ _. []) 9 1 s
+tuple_preamble s = written_preamble 9 1 s
 
 abbrev pub IsTuplePreamble : CompactSketch → List ℕ → Type 0
 IsTuplePreamble s bytes = bytes ≡ tuple_preamble s.sketch

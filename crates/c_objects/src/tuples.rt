@@ -1,13 +1,12 @@
 //! Images of tuple sketches whose summaries are the caller's, of any length: their preambles, and compact sketches of
 //! their keys.
-ghost use Rattle.std.specs.Prelude.{◌≡◌, ◌≤◌, ◌<◌, ◌^◌, ◌++◌, ℕ, List, length, take, IfOk, IfErr, OnOk, MatchOption, if◌then◌else◌};
+ghost use Rattle.std.specs.Prelude.{◌≡◌, ◌<◌, ◌^◌, ◌++◌, ℕ, List, length, IfOk, IfErr, OnOk, MatchOption};
 ghost use Rattle.std.specs.List.{flat_map};
 ghost use Rattle.core_compact.specs.CompactState.{Compact, IsCompact};
 ghost use Rattle.core_laws.specs.Entries.{hash_key};
 ghost use Rattle.core_images.specs.Entry.{SpellsHash, SpellsEach};
 ghost use Rattle.core_images.specs.Head.{tuple_layout};
 ghost use Rattle.core_images.specs.Summary.{tuple_text};
-ghost use Rattle.core_images.specs.Write.{longs_of};
 ghost use Rattle.core_slots.specs.Entry.{tuple_key};
 ghost use Rattle.core_slots.specs.declared.entry.TupleEntry.{TupleEntry};
 ghost use Rattle.tuple_sketches.specs.Image.{Reads, written};
@@ -22,79 +21,26 @@ use crate::bounds::is_state;
 use crate::buffer::put;
 use crate::compact::CompactSketch;
 use crate::flaws::{Finding, finding_of};
-use crate::objects::FromImage;
 use crate::state::State;
 use crate::status::{INVALID_DATA, OK, OUT_OF_MEMORY, status_of};
 use core_compact::CompactSketchState;
 use core_images::{
-    ImageLayout, Preamble, TupleSummaryValue, flaw_of_image, layout_of, length_of,
-    read_after_preamble, reader_seed_hash, tuple_head, write_image,
+    ImageLayout, Preamble, TupleSummaryValue, flaw_of_image, image_preamble, layout_of, length_of,
+    read_after_preamble, reader_seed_hash, tuple_head,
 };
 use core_slots::ThetaEntry;
 use keys_sketches::{Flaw, flaw_of};
 use sketch_base::{Error, Family, SketchBytes};
 use std::alloc::{Allocator, Global};
 use theta_sketches::{CompactThetaSketch, MAX_THETA};
-
-/// How many longs the preamble of an image of a sketch has, from 1 to 3.
-fn longs_of(keys: &CompactThetaSketch) -> u8
-    ensures { result ≡ (if keys.now.empty then 1 else longs_of keys.now) }
-{
-    if keys.is_empty() {
-        1
-    } else if keys.theta64() < MAX_THETA {
-        3
-    } else if keys.num_retained() == 1 {
-        1
-    } else {
-        2
-    }
-}
-
-/// The flags in an image of a sketch.
-fn flags_of(keys: &CompactThetaSketch) -> u8
-    ensures { result ≡ (if keys.now.empty then 0x1e else (if keys.now.ordered then 0x1a else 0x0a)) }
-{
-    if keys.is_empty() {
-        0x1e
-    } else if keys.is_ordered() {
-        0x1a
-    } else {
-        0x0a
-    }
-}
-
-/// The seed hash in an image of a sketch, which is 0 if the sketch is empty.
-fn written_seed_hash(keys: &CompactThetaSketch) -> u16
-    ensures { result ≡ (if keys.now.empty then 0 else keys.now.seed_hash) }
-{
-    if keys.is_empty() { 0 } else { keys.seed_hash() }
-}
-
-/// The preamble of the image of a tuple sketch with these keys, and behind it bytes of no meaning; and how many bytes
-/// it has: 8, 16 or 24.
-fn preamble_of(keys: &CompactThetaSketch) -> ([u8; 24], usize)
-    ensures within { result.1 ≤ 24 }
-    ensures preamble { take result.1 result.0 ≡ tuple_preamble keys.now }
-{
-    let longs = longs_of(keys);
-    let flags = flags_of(keys);
-    let h = u16::to_le_bytes(written_seed_hash(keys));
-    let c = u32::to_le_bytes(keys.num_retained() as u32);
-    let t = u64::to_le_bytes(keys.theta64());
-    let bytes = [
-        longs, 3, 9, 1, 0, flags, h[0], h[1], c[0], c[1], c[2], c[3], 0, 0, 0, 0, t[0], t[1], t[2],
-        t[3], t[4], t[5], t[6], t[7],
-    ];
-    (bytes, 8 * longs as usize)
-}
+use tuple_sketches::SKETCH_TYPE;
 
 /// Copies the preamble of the image of a tuple sketch with these keys to the front of a buffer, and writes how many
 /// bytes it has. The status is `OK`, or `TOO_SMALL` if it doesn't fit.
 pub fn put_tuple_preamble(keys: &CompactSketch, out: &mut [u8], length: &mut u64) -> u32
     ensures { IsPut (tuple_preamble keys.now.sketch) out.old result out.new length.new }
 {
-    let (bytes, count) = preamble_of(&keys.sketch);
+    let (bytes, count) = image_preamble(keys.sketch.state(), Family::TUPLE, SKETCH_TYPE);
     put(&bytes[..count], out, length)
 }
 
@@ -241,17 +187,19 @@ pub fn of_hashes(
     ensures refused { IfErr result (IsFormRefusal state.now order hashes.now seed) }
     ensures room { OnOk result (IsFormRefusal state.now order hashes.now seed 3) }
 {
+    let seed_hash = reader_seed_hash(seed);
+    if seed_hash == 0 {
+        return Err(INVALID_DATA);
+    }
     let layout = match layout_of_form(state, order, hashes.len()) {
         Some(layout) => layout,
         None => return Err(INVALID_DATA),
     };
-    let keys = match keys_by(alloc, layout, hashes, reader_seed_hash(seed)) {
-        Ok(keys) => keys,
-        Err(status) => return Err(status),
-    };
-    match write_image(alloc, &keys, Family::THETA, 0) {
-        Ok(image) => CompactSketch::read(alloc, image.as_slice(), seed),
-        Err(_) => Err(OUT_OF_MEMORY),
+    match keys_by(alloc, layout, hashes, seed_hash) {
+        Ok(keys) => Ok(CompactSketch {
+            sketch: CompactThetaSketch::of_state(keys),
+        }),
+        Err(status) => Err(status),
     }
 }
 

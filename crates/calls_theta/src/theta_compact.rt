@@ -61,6 +61,10 @@ impl<A: Allocator + Copy + Drop> Object<A> for ThetaCompactObject<A> {
     ) -> Result<(), Fault> {
         match call.verb {
             "clone" => self.sketch = self.sketch.clone()?,
+            "of_state" => {
+                let state = self.sketch.state().clone()?;
+                self.sketch = CompactThetaSketch::of_state(state);
+            }
             "read" => self.sketch = self.read_again(number(call.argument)?)?,
             _ => return self.read(call, answer),
         }

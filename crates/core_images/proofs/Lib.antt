@@ -6,3 +6,4 @@ pub mod ImageLayouts
 pub mod Fronts
 pub mod ReadAgain
 mod Chunks
+pub mod WrittenPreambles

@@ -28,3 +28,7 @@ written_image text family kind s =
     else (head (longs_of s) family kind (if s.ordered then 0x1a else 0x0a) s.seed_hash
     ++ (if nat_lt s.theta MAX_THETA then (counted s ++ to_le_bytes w64 s.theta) else (if length s.entries == 1 then [] else counted s))
     ++ flat_map text s.entries)
+
+-- the preamble of that image: the image without the bytes of its entries
+abbrev pub written_preamble : {X : Type 0} → (family kind : ℕ) → Compact X → List ℕ
+written_preamble family kind s = written_image (λ _. []) family kind s

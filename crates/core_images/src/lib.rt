@@ -26,4 +26,4 @@ pub use head::{
 pub use preamble::{ImageLayout, Preamble, announced, count_at, seed_hash_at, theta_at};
 pub use read::read_after_preamble;
 pub use summary::TupleSummaryValue;
-pub use write::{write_image, write_image_with_capacity};
+pub use write::{image_preamble, write_image, write_image_with_capacity};

@@ -1,8 +1,8 @@
 //! Writing images.
-ghost use Rattle.std.specs.Prelude.{◌≡◌, ◌<◌, ◌^◌, ◌++◌, None, true, IfOk, OnOk};
+ghost use Rattle.std.specs.Prelude.{◌≡◌, ◌≤◌, ◌<◌, ◌^◌, None, true, take, if◌then◌else◌, IfOk, OnOk};
 ghost use Rattle.std.specs.List.{AllByRecursion};
 ghost use Rattle.core_compact.specs.CompactState.{IsCompact};
-ghost use Rattle.core_images.specs.Write.{written_image, counted_bytes};
+ghost use Rattle.core_images.specs.Write.{written_image, written_preamble, longs_of};
 ghost use Rattle.core_laws.specs.Refusal.{Refuses};
 
 use crate::entry::ImageEntry;
@@ -11,14 +11,65 @@ use core_laws::{MAX_THETA, SketchEntry};
 use sketch_base::{Error, Family, SketchBytes};
 use std::alloc::Allocator;
 
-/// Appends a count of entries and four bytes of 0.
-fn write_count<A: Allocator>(count: usize, bytes: &mut SketchBytes<A>) -> Result<(), Error>
-    requires { count < 2 ^ 32 }
-    ensures ok { OnOk result (bytes.new.bytes ≡ bytes.old.bytes ++ counted_bytes count) }
-    ensures refused { Refuses result None true }
+/// How many preamble longs the image of a state has, from 1 to 3.
+fn longs_of<E: SketchEntry, B: Allocator>(state: &CompactSketchState<E, B>) -> u8
+    ensures { result ≡ (if state.now.empty then 1 else longs_of state.now) }
 {
-    bytes.write_u32_le(count as u32)?;
-    bytes.write_u32_le(0)
+    if state.is_empty() {
+        1
+    } else if state.theta() < MAX_THETA {
+        3
+    } else if state.retained_entries().len() == 1 {
+        1
+    } else {
+        2
+    }
+}
+
+/// The flags in the image of a state.
+fn flags_of<E: SketchEntry, B: Allocator>(state: &CompactSketchState<E, B>) -> u8
+    ensures { result ≡ (if state.now.empty then 0x1e else (if state.now.ordered then 0x1a else 0x0a)) }
+{
+    if state.is_empty() {
+        0x1e
+    } else if state.is_ordered() {
+        0x1a
+    } else {
+        0x0a
+    }
+}
+
+/// The seed hash in the image of a state, which is 0 if that is empty.
+fn written_seed_hash<E: SketchEntry, B: Allocator>(state: &CompactSketchState<E, B>) -> u16
+    ensures value { result ≡ (if state.now.empty then 0 else state.now.seed_hash) }
+    ensures short { state.now.seed_hash < 2 ^ 16 }
+{
+    let seed_hash = state.seed_hash();
+    if state.is_empty() { 0 } else { seed_hash }
+}
+
+/// The preamble of the image of a state, of this family and with `kind` in byte 3, and behind it bytes of no meaning;
+/// and how many bytes it has: 8, 16 or 24.
+pub fn image_preamble<E: SketchEntry, B: Allocator>(
+    state: &CompactSketchState<E, B>,
+    family: Family,
+    kind: u8,
+) -> ([u8; 24], usize)
+    ensures within { result.1 ≤ 24 }
+    ensures preamble { take result.1 result.0 ≡ written_preamble family.id kind state.now }
+    ensures sound { IsCompact E.key state.now }
+    ensures short { state.now.seed_hash < 2 ^ 16 }
+{
+    let longs = longs_of(state);
+    let flags = flags_of(state);
+    let h = u16::to_le_bytes(written_seed_hash(state));
+    let c = u32::to_le_bytes(state.retained_entries().len() as u32);
+    let t = u64::to_le_bytes(state.theta());
+    let bytes = [
+        longs, 3, family.id, kind, 0, flags, h[0], h[1], c[0], c[1], c[2], c[3], 0, 0, 0, 0, t[0],
+        t[1], t[2], t[3], t[4], t[5], t[6], t[7],
+    ];
+    (bytes, 8 * longs as usize)
 }
 
 /// Returns the image of a state, in memory of `alloc`: version 3 of this family, with `kind` in byte 3, where a
@@ -55,31 +106,9 @@ pub fn write_image_with_capacity<E: ImageEntry<A>, A: Allocator + Drop, B: Alloc
     ensures sound { IsCompact E.key state.now }
     ensures short { state.now.seed_hash < 2 ^ 16 }
 {
-    let entries = state.retained_entries();
-    let count = entries.len();
-    let seed_hash = state.seed_hash();
+    let (preamble, length) = image_preamble(state, family, kind);
     let mut bytes = SketchBytes::with_capacity(alloc, capacity)?;
-    if state.is_empty() {
-        bytes.write(&[1, 3, family.id, kind, 0, 0x1e, 0, 0])?;
-        return Ok(bytes.into_bytes());
-    }
-    let flags = if state.is_ordered() { 0x1a } else { 0x0a };
-    let estimating = state.theta() < MAX_THETA;
-    let longs = if estimating {
-        3
-    } else if count == 1 {
-        1
-    } else {
-        2
-    };
-    bytes.write(&[longs, 3, family.id, kind, 0, flags])?;
-    bytes.write_u16_le(seed_hash)?;
-    if longs != 1 {
-        write_count(count, &mut bytes)?;
-    }
-    if estimating {
-        bytes.write_u64_le(state.theta())?;
-    }
-    E::write_each(entries, &mut bytes)?;
+    bytes.write(&preamble[..length])?;
+    E::write_each(state.retained_entries(), &mut bytes)?;
     Ok(bytes.into_bytes())
 }

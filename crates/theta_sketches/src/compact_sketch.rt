@@ -38,13 +38,15 @@ impl<A: Allocator> Model for CompactThetaSketch<A> {
 }
 
 impl<A: Allocator> CompactThetaSketch<A> {
-    pub(crate) fn of_state(state: CompactSketchState<ThetaEntry, A>) -> Self
+    /// The sketch of a compact state.
+    pub fn of_state(state: CompactSketchState<ThetaEntry, A>) -> Self
         ensures { result ≡ state }
     {
         CompactThetaSketch { state }
     }
 
-    pub(crate) fn state(&self) -> &CompactSketchState<ThetaEntry, A>
+    /// Its state, which has its hashes as a slice.
+    pub fn state(&self) -> &CompactSketchState<ThetaEntry, A>
         ensures { result.now ≡ self.now }
     {
         &self.state
