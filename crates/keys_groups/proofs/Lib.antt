@@ -1,4 +1,3 @@
-pub mod WholeFields
 pub mod WholeLines
 pub mod LinesInGroups
 pub mod Entries

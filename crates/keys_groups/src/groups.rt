@@ -13,10 +13,9 @@ ghost use Rattle.keys_groups.specs.Names.{texts_of, AreNamed};
 ghost use Rattle.keys_groups.specs.States.{Changes, UpdatesGroup, AddsLine, IsGrouped};
 ghost use Rattle.keys_groups.specs.declared.groups.Grouping.{Grouping};
 
-use crate::fields::{key_hash, key_in};
 use crate::names::NameIndex;
 use crate::sketched::SketchedGroups;
-use keys_lines::{Hashing, Key};
+use keys_lines::{Hashing, Key, key_hash, key_in};
 use keys_sketches::trim_and_compact;
 use sketch_base::Error;
 use std::alloc::Global;

@@ -16,7 +16,6 @@
 //! ```
 #![tactic(auto)]
 
-mod fields;
 mod files;
 mod groups;
 pub mod laws;

@@ -10,8 +10,10 @@ mod hashed_lines;
 mod key;
 mod open_key;
 mod open_line;
+mod whole_key;
 
 pub use cut::{cut_at, cut_line};
 pub use hashed_lines::hash_lines;
 pub use key::{Hashing, Key};
 pub use open_line::{OpenLine, line_hash};
+pub use whole_key::{key_hash, key_in};

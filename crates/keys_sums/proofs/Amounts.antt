@@ -1,5 +1,5 @@
 -- What lines add, as a stream of numbers, and their sum, the least or the greatest of them.
-use Rattle.std.proofs.Common.{◌≡◌, ℕ, ◌+◌, true, false, cond, eqb, List, [], ◌∷◌, ◌++◌, map, refl, sym, ap, ◌∙◌, arith}
+use Rattle.std.proofs.Common.{◌≡◌, ℕ, true, false, cond, eqb, List, [], ◌∷◌, ◌++◌, map, refl, ap, ◌∙◌, arith}
 use Rattle.core_laws.specs.declared.leaf.LeafStep.TheVariants.{Add}
 use Rattle.keys_lines.specs.Keys.{line_hash}
 use Rattle.keys_lines.specs.declared.key.Hashing.{Hashing}

@@ -6,7 +6,7 @@ use Rattle.std.proofs.lemmas.Bool.Decides.{nat_tests}
 use Rattle.std.proofs.lemmas.List.{length-append, take_all, take_more_set, take-append-le}
 use Rattle.keys_lines.specs.declared.key.Hashing.{Hashing}
 use Rattle.keys_sums.specs.Amounts.{IsOpenAddend, IsEndedAddend}
-use Rattle.keys_sums.specs.Parts.{bytes_of, start_of, IsStart}
+use Rattle.keys_sums.specs.Parts.{IsStart}
 use Rattle.keys_sums.specs.declared.addends.Amount.{Amount}
 use Rattle.keys_sums.specs.declared.addends.OpenAddend.{OpenAddend}
 use Rattle.keys_sums.specs.declared.starts.TheConstants.{START}

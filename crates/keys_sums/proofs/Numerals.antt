@@ -1,11 +1,12 @@
 -- Numbers that are read digit by digit.
-use Rattle.std.proofs.Common.{◌≡◌, ℕ, ◌+◌, ◌-◌, ◌*◌, ◌^◌, ◌<◌, ◌≤◌, Bool, true, false, cond, List, [], ◌∷◌, ◌++◌, length, Some, None, refl, sym, ap, ◌∙◌, append-nil, arith}
+use Rattle.std.proofs.Common.{◌≡◌, ℕ, zero, suc, ◌+◌, ◌-◌, ◌*◌, ◌^◌, ◌<◌, ◌≤◌, Bool, true, false, cond, List, [], ◌∷◌, ◌++◌, length, take, get_or, Some, None, refl, sym, ap, subst, ◌∙◌, append-nil, arith}
 use Rattle.std.specs.Prelude.{◌&&◌, ◌==◌, not, nat_lt}
 use Rattle.std.specs.Char.{is_ascii_digit, digit_value}
 use Rattle.std.specs.Str.{all_ascii_digits}
 use Rattle.std.specs.Str.Parse.{digits_value, digits_value_after}
 use Rattle.std.proofs.lemmas.Bool.{and_parts}
 use Rattle.std.proofs.lemmas.Bool.Decides.{nat_tests}
+use Rattle.std.proofs.lemmas.List.{take_more}
 use Rattle.std.proofs.lemmas.Option.{cond_some}
 use Rattle.keys_sums.specs.Amounts.{number_in}
 
@@ -95,3 +96,33 @@ no_digit bytes c other more =
 
 pub none_now : (bytes : List ℕ) → ((more : List ℕ) → number_in (bytes ++ more) ≡ None) → number_in bytes ≡ None
 none_now bytes wrong = ap number_in (sym (append-nil bytes)) ∙ wrong []
+
+-- ---- numbers in a text, byte by byte
+
+take_whole : (n : ℕ) (xs : List ℕ) → length xs ≤ n → take n xs ≡ xs
+take_whole zero [] h = refl
+take_whole zero (x ∷ xs) h = absurd (omega (arith, h))
+take_whole (suc n) [] h = refl
+take_whole (suc n) (x ∷ xs) h = ap (λ ys. x ∷ ys) (take_whole n xs (omega (arith, h)))
+
+module _ (text : List ℕ) (first : ℕ) (others : List ℕ) (parts : text ≡ first ∷ others) where
+  text_length : length text ≡ suc (length others)
+  text_length = ap length parts
+
+  -- its first byte is a digit
+  pub text_begins : is_ascii_digit first ≡ true → number_in (take 1 text) ≡ Some (first - 48)
+  text_begins digit = ap (λ (xs : List ℕ). number_in (take 1 xs)) parts ∙ first_digit first digit
+
+  -- one byte more is a digit
+  pub text_continues : (i n : ℕ) → i < length others → number_in (take (i + 1) text) ≡ Some n → is_ascii_digit (get_or others i 0) ≡ true → n * 10 + (get_or others i 0 - 48) < 2 ^ 64 →
+      number_in (take (i + 1 + 1) text) ≡ Some (n * 10 + (get_or others i 0 - 48))
+  text_continues i n lt is digit small =
+      let next : i + 1 ≡ suc i = omega arith in
+      let at : get_or text (i + 1) 0 ≡ get_or others i 0 = ap (λ (xs : List ℕ). get_or xs (i + 1) 0) parts ∙ ap (λ (k : ℕ). get_or (first ∷ others) k 0) next in
+      let inside : i + 1 < length text = omega (arith, lt, text_length) in
+      let more = next_digit (take (i + 1) text) n (get_or text (i + 1) 0) is (ap is_ascii_digit at ∙ digit) (subst (λ (b : ℕ). n * 10 + (b - 48) < 2 ^ 64) (sym at) small) in
+      ap number_in (take_more text (i + 1) 0 inside) ∙ more ∙ ap (λ (b : ℕ). Some (n * 10 + (b - 48))) at
+
+  -- all bytes are read
+  pub text_ends : (i n : ℕ) → length others ≤ i → number_in (take (i + 1) text) ≡ Some n → number_in text ≡ Some n
+  text_ends i n all is = ap number_in (sym (take_whole (i + 1) text (omega (arith, all, text_length)))) ∙ is

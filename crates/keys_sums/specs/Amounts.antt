@@ -7,7 +7,6 @@ use Rattle.std.specs.Str.Parse.{digits_value}
 use Rattle.keys_lines.specs.Keys.{key_of}
 use Rattle.keys_lines.specs.Open.{IsOpen}
 use Rattle.keys_lines.specs.declared.key.Hashing.{Hashing}
-use Rattle.keys_lines.specs.declared.key.Key.{Key}
 use Rattle.keys_lines.specs.declared.key.Key.TheVariants.{Line, Field}
 use Rattle.keys_sums.specs.Parts.{IsOpenPart, IsStart}
 use Rattle.keys_sums.specs.declared.addends.Amount.{Amount}

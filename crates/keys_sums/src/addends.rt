@@ -1,5 +1,5 @@
 //! What a line adds to the sum of its key, while the line is read in pieces.
-ghost use Rattle.std.specs.Prelude.{◌≡◌, ◌++◌, ◌∷◌, ◌==◌, not, ℕ, List, [], Some, length};
+ghost use Rattle.std.specs.Prelude.{◌≡◌, ◌++◌, ◌∷◌, ◌==◌, not, ℕ, List, [], Some, length, IfSome};
 ghost use Rattle.keys_lines.specs.Keys.{line_hash};
 ghost use Rattle.keys_lines.specs.declared.key.Hashing.{Hashing};
 ghost use Rattle.keys_sums.specs.Amounts.{amount_in, value_in, IsEndedAddend, IsOpenAddend};
@@ -7,10 +7,10 @@ ghost use Rattle.keys_sums.specs.Parts.{IsStart};
 ghost use Rattle.keys_sums.specs.declared.addends.Amount.{Amount};
 ghost use Rattle.keys_sums.specs.declared.addends.Amount.TheVariants.{One};
 
-use crate::digits::Digits;
+use crate::digits::{Digits, short_number};
 use crate::parts::{Collected, OpenPart};
 use crate::starts::ValueStart;
-use keys_lines::{Hashing, Key, OpenLine};
+use keys_lines::{Hashing, Key, OpenLine, key_hash, key_in};
 
 /// What each line adds to the sum of its key.
 ///
@@ -25,6 +25,19 @@ pub enum Amount {
     /// The whole number below 2^64 that this part of the line spells in decimal digits, with nothing else beside
     /// them.
     Number(Key),
+}
+
+/// The hash of the key of a whole line, of 63 bits, and what the line adds. `None` unless the number is found at once.
+#[inline(always)]
+pub(crate) fn whole_addend(hashing: Hashing, amount: Amount, line: &[u8]) -> Option<(u64, u64)>
+    ensures hash { IfSome result (λ x. x.0 ≡ line_hash hashing line.now) }
+    ensures value { IfSome result (λ x. amount_in amount line.now ≡ Some x.1) }
+{
+    let value = match amount {
+        Amount::One => 1,
+        Amount::Number(key) => short_number(key_in(key, line))?,
+    };
+    Some((key_hash(hashing, line), value))
 }
 
 /// A line that has begun, which is to be added: the hash of its key, and the number in its part, so far; and how that part

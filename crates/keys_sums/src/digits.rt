@@ -1,9 +1,32 @@
 //! A whole number in decimal digits that is read byte by byte.
-ghost use Rattle.std.specs.Prelude.{◌≡◌, ◌<◌, ◌≤◌, ◌+◌, ◌*◌, ◌^◌, ℕ, List};
+ghost use Rattle.std.specs.Prelude.{◌≡◌, ◌<◌, ◌≤◌, ◌+◌, ◌*◌, ◌^◌, ℕ, List, Some, IfSome};
 ghost use Rattle.keys_sums.specs.Amounts.{number_in, IsRead};
 ghost use Rattle.keys_sums.specs.declared.digits.Digits.TheVariants as digits;
 
 use crate::parts::Collected;
+
+/// The greatest number to which any digit can be appended below 2^64.
+const MOST_BEFORE_DIGIT: u64 = u64::MAX / 10 - 1;
+
+/// The number that a text spells, if it is found without a test for overflow at each digit.
+pub(crate) fn short_number(text: &[u8]) -> Option<u64>
+    ensures { IfSome result (λ n. number_in text.now ≡ Some n) }
+{
+    let Some((first, others)) = text.split_first() else {
+        return None;
+    };
+    if !first.is_ascii_digit() {
+        return None;
+    }
+    let mut number = (*first - b'0') as u64;
+    for byte in others {
+        if !byte.is_ascii_digit() || number > MOST_BEFORE_DIGIT {
+            return None;
+        }
+        number = number * 10 + (*byte - b'0') as u64;
+    }
+    Some(number)
+}
 
 /// What the bytes read so far spell.
 #[derive(Clone, Copy, Debug, PartialEq, Eq)]

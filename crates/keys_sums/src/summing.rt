@@ -16,7 +16,7 @@ ghost use Rattle.keys_sums.specs.Refusals.{LacksNumber, LacksNumberAt, LacksNumb
 ghost use Rattle.keys_sums.specs.declared.addends.Amount.{Amount};
 ghost use Rattle.tuple_sketches.specs.declared.numbers.SummaryMode.{SummaryMode};
 
-use crate::addends::{Amount, OpenAddend};
+use crate::addends::{Amount, OpenAddend, whole_addend};
 use crate::starts::ValueStart;
 use keys_lines::{Hashing, cut_line};
 use keys_sketches::TextReader;
@@ -198,10 +198,71 @@ fn add_line<A: Allocator + Clone>(
         let start = last.value_start(amount, end);
         return Err(SumError::NotANumber(count.saturating_add(1), start));
     };
-    match summation.add(last.hash(), value) {
+    add_number(summation, last.hash(), value, count)
+}
+
+/// Adds the number of a hash, which a line behind `count` others of its source adds.
+fn add_number<A: Allocator + Clone>(
+    summation: &mut Summation<A>,
+    hash: u64,
+    value: u64,
+    count: u64,
+) -> Result<(), SumError>
+    ensures added { (hashing : Hashing) (amount : Amount) (line : List ℕ)
+        → hash ≡ line_hash hashing line
+        → amount_in amount line ≡ Some value
+        → AddsLines hashing amount (line ∷ []) summation.old result summation.new }
+    ensures number { (amount : Amount) (line : List ℕ) → IfErr result (LacksNumber amount line count) }
+    ensures past { (hashing : Hashing) (amount : Amount) (line : List ℕ)
+        → hash ≡ line_hash hashing line
+        → amount_in amount line ≡ Some value
+        → ReportsPast hashing amount (line ∷ []) summation.old result }
+    ensures refused { (amount : Amount) → RefusesSums amount result None }
+    ensures retried { IfErr result IsLastingFailure }
+    ensures fallible { (may_fail : Bool) → IfErr result (FailsIf may_fail) }
+{
+    match summation.add(hash, value) {
         Ok(()) => Ok(()),
         Err(error) => Err(add_error(error, count)),
     }
+}
+
+/// Ends an open line behind `count` others of its source by these bytes, and adds what it adds. The open line has no
+/// byte then. A line that has none before is added as a whole.
+fn take_line<A: Allocator + Clone>(
+    summation: &mut Summation<A>,
+    hashing: Hashing,
+    amount: Amount,
+    last: &mut OpenAddend,
+    end: &[u8],
+    count: u64,
+) -> Result<(), SumError>
+    ensures added { (front : List ℕ)
+        → IsOpenAddend hashing amount front last.old
+        → AddsLines hashing amount ((front ++ end.now) ∷ []) summation.old result summation.new }
+    ensures restarted { (front : List ℕ)
+        → IsOpenAddend hashing amount front last.old
+        → OnOk result (IsOpenAddend hashing amount [] last.new) }
+    ensures number { (front : List ℕ)
+        → IsOpenAddend hashing amount front last.old
+        → IfErr result (LacksNumber amount (front ++ end.now) count) }
+    ensures past { (front : List ℕ)
+        → IsOpenAddend hashing amount front last.old
+        → ReportsPast hashing amount ((front ++ end.now) ∷ []) summation.old result }
+    ensures refused { RefusesSums amount result None }
+    ensures retried { IfErr result IsLastingFailure }
+    ensures fallible { (may_fail : Bool) → IfErr result (FailsIf may_fail) }
+{
+    if !last.is_begun() {
+        if let Some((hash, value)) = whole_addend(hashing, amount, end) {
+            add_number(summation, hash, value, count)?;
+            return Ok(());
+        }
+    }
+    last.end(amount, end);
+    add_line(summation, amount, last, end, count)?;
+    last.restart(hashing);
+    Ok(())
 }
 
 /// Adds each line that ends in a block, which continues an open line behind `count` lines. The open line is then the
@@ -230,9 +291,7 @@ fn take_block<A: Allocator + Clone>(
     let mut rest = block;
     let mut count = count;
     while let Some((piece, others)) = cut_line(rest) {
-        last.end(amount, piece);
-        add_line(summation, amount, last, piece, count)?;
-        last.restart(hashing);
+        take_line(summation, hashing, amount, last, piece, count)?;
         count = count.saturating_add(1);
         rest = others;
     }

@@ -1,7 +1,7 @@
 use Rattle.std.proofs.Common.{[], get_or, arith}
 use Rattle.keys_lines.specs.Keys.{fields_of}
-use Rattle.keys_groups.proofs.WholeFields.{field_passed, fields_end, field_before, field_last}
-use Rattle.keys_groups.proofs.fields.field_after.Goals as goal
+use Rattle.keys_lines.proofs.WholeFields.{field_passed, fields_end, field_before, field_last}
+use Rattle.keys_lines.proofs.whole_key.field_after.Goals as goal
 
 pub loop-passed-preserved : goal.loop-passed-preserved
 loop-passed-preserved c =

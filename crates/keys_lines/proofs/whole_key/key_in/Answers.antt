@@ -1,7 +1,7 @@
 use Rattle.std.proofs.Common.{ap, sym, ◌∙◌}
 use Rattle.keys_lines.specs.Keys.{key_of}
-use Rattle.keys_groups.proofs.WholeFields.{key_first, key_later, key_whole}
-use Rattle.keys_groups.proofs.fields.key_in.Goals as goal
+use Rattle.keys_lines.proofs.WholeFields.{key_first, key_later, key_whole}
+use Rattle.keys_lines.proofs.whole_key.key_in.Goals as goal
 
 pub returns-then-before-eq0 : goal.returns-then-before-eq0
 returns-then-before-eq0 c =

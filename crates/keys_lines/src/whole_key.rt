@@ -1,8 +1,10 @@
-//! The key of a whole line.
+//! The key of a whole line, as a part of it.
 ghost use Rattle.std.specs.Prelude.{◌≡◌, [], get_or};
 ghost use Rattle.keys_lines.specs.Keys.{fields_of, key_of, line_hash};
 
-use keys_lines::{Hashing, Key, cut_at, line_hash};
+use crate::cut::cut_at;
+use crate::key::{Hashing, Key};
+use crate::open_line::line_hash;
 
 /// The field of a text after this many others; empty if the text has fewer.
 fn field_after(before: u32, separator: u8, text: &[u8]) -> &[u8]
@@ -21,9 +23,9 @@ fn field_after(before: u32, separator: u8, text: &[u8]) -> &[u8]
     }
 }
 
-/// The key of a line.
+/// The key of a line, which has no LF.
 #[inline(always)]
-pub(crate) fn key_in(key: Key, line: &[u8]) -> &[u8]
+pub fn key_in(key: Key, line: &[u8]) -> &[u8]
     ensures { result.now ≡ key_of key line.now }
 {
     match key {
@@ -41,10 +43,10 @@ pub(crate) fn key_in(key: Key, line: &[u8]) -> &[u8]
     }
 }
 
-/// The hash of the key of a line. The key is found first and then hashed alone: `line_hash` is made for lines that
-/// come in pieces, and hashes the first field until it has met a separator.
+/// The hash of the key of a line, of 63 bits: the result of `line_hash`. The key is found first and then hashed alone;
+/// `line_hash` hashes the first field until it has met a separator, as for a line that comes in pieces.
 #[inline(always)]
-pub(crate) fn key_hash(hashing: Hashing, line: &[u8]) -> u64
+pub fn key_hash(hashing: Hashing, line: &[u8]) -> u64
     ensures { result ≡ line_hash hashing line.now }
 {
     let whole = Hashing {
