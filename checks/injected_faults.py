@@ -360,6 +360,8 @@ READING = (
     "meet_of_lines",
     "minus_of_images",
     "minus_of_lines",
+    "similarity_of_estimates",
+    "similarity_of_hexadecimal_lines",
     "show_of_images",
     "show_of_lines",
     "show_of_listed_images",
@@ -371,9 +373,22 @@ READING = (
 )
 
 
+def without_a_file(shown):
+    """What `show` may print if one of its files can't be read: the lines of the others, and the first ones of that file, or all
+    of them if its end can't be read; or nothing, if the file is the list of names."""
+    lines = shown.splitlines(True)
+    names = [line.partition(b": ")[0] for line in lines]
+    answers = {b""}
+    for file in names:
+        for kept in range(names.count(file) + 1):
+            own = [at for at, name in enumerate(names) if name == file][kept:]
+            answers.add(b"".join(line for at, line in enumerate(lines) if at not in own))
+    return answers
+
+
 def fail_reads(faults, name, folder):
     """Reads and writes of a command that fail, move few bytes or are interrupted. After a failed one nothing is read, and
-    nothing is written but what was written before it."""
+    nothing is written but what was written before it; `show` passes over a file that can't be read."""
     arguments, data = case(name)
     whole = faults.run("distinct", *arguments, data=data, folder=folder)
     check(f"distinct, {name}", whole.status, 0)
@@ -384,11 +399,15 @@ def fail_reads(faults, name, folder):
     for error, read in itertools.product(ERRORS, some_of(pieces["reads"])):
         found = faults.run("distinct", *arguments, data=data, folder=folder, piece=40, read=read, error=error)
         what = f"distinct, {name}, read {read} fails with {errno.errorcode[error]}"
-        check(what, (*answer_of(found), found.log["writes"], found.log["after"]), (1, b"", 0, 0))
+        if arguments[0] == "show":
+            check(what, (found.status, found.out in without_a_file(whole.out)), (1, True))
+        else:
+            check(what, (*answer_of(found), found.log["writes"], found.log["after"]), (1, b"", 0, 0))
         check(f"{what}, its message", said_of(found.err), os.strerror(error))
     for number in range(1, pieces["opens"] + 1):
         found = faults.run("distinct", *arguments, data=data, folder=folder, open=number)
-        check(f"distinct, {name}, file {number} can't be opened", (answer_of(found), said_of(found.err)), ((1, b""), os.strerror(errno.EIO)))
+        printed = found.out if arguments[0] == "show" and found.out in without_a_file(whole.out) else b""
+        check(f"distinct, {name}, file {number} can't be opened", (answer_of(found), said_of(found.err)), ((1, printed), os.strerror(errno.EIO)))
     for error, write in itertools.product((errno.EIO, errno.ENOSPC), some_of(pieces["writes"])):
         found = faults.run("distinct", *arguments, data=data, folder=folder, piece=40, write=write, error=error)
         what = f"distinct, {name}, write {write} fails with {errno.errorcode[error]}"

@@ -6,7 +6,9 @@ such as tests/distinct: what is written, to standard output and to files, and th
 the message, if a file's contents are at fault. It doesn't know the messages of wrong arguments and of the system, nor the
 texts of --help and --version. It shares no code with the program.
 """
+import bisect
 import collections
+import fractions
 import functools
 import io
 import json
@@ -33,9 +35,10 @@ OPTIONS = {
     "show": "-C --seed --seed-file --files0-from --hex --bounds --tsv --json",
     "eval": "-C --lg-k --seed --seed-file --keys --sums --summary --field --separator --bounds --tsv --json --hex --output --force",
     "visits": "-C --lg-k --field --separator --sums --hex --seed --seed-file --files0-from --part --bounds --tsv --json",
+    "similarity": "-C --seed --seed-file --hex --bounds --tsv --json",
     "sum": "-C --value --lg-k --field --separator --seed --seed-file --files0-from --part --tsv --json",
 }
-OPTIONS = {command: f"{options} --quiet" for command, options in OPTIONS.items()}
+OPTIONS = {command: f"{options} --quiet" + " --error" * (command in ("count", "sketch", "visits", "sum")) for command, options in OPTIONS.items()}
 FLAGS = ("--hex", "--groups", "--sums", "--visits", "--progress", "--keys", "--force", "--quiet", "--human")
 # Short names of options with a value, which may be attached to them.
 SHORT = {"-k": "--lg-k", "-f": "--field", "-d": "--separator", "-o": "--output"}
@@ -423,6 +426,45 @@ def printed_total(sketch, options, exact_total=None):
     return json.dumps(row, separators=(",", ":")) + "\n" if options["form"] else f"{total}\n"
 
 
+def share_bounds(z, shared, united):
+    """The ends of the Wilson score interval of a share, in millionths, rounded outwards: the nearest on either side of it that are not
+    inside, where the square of the distance from the share is below that of z standard deviations."""
+    million = 10**6
+
+    def is_outside(share):
+        return (united * share - shared * million) ** 2 >= z * z * united * share * (million - share)
+
+    below, above = shared * million // united, -(-shared * million // united)
+    lower = bisect.bisect_left(range(below + 1), True, key=lambda more: is_outside(below - more))
+    upper = bisect.bisect_left(range(million - above + 1), True, key=lambda more: is_outside(above + more))
+    return below - lower, above + upper
+
+
+def printed_similarity(first, second, options):
+    """The answer of `similarity` on two sketches: what both retain below the lesser theta, among what at least one retains there."""
+    million = 10**6
+    theta = min(it[1] if it else MAX_THETA for it in (first, second))
+    parts = [{h for h in (it[0] if it else ()) if h < theta} for it in (first, second)]
+    shared, united = len(parts[0] & parts[1]), len(parts[0] | parts[1])
+    exact = not first or not second or theta == MAX_THETA and united > 0
+    if not first or not second:
+        share = 0 if first or second else million
+        lower = upper = share
+    elif not united:
+        share, lower, upper = million // 2, 0, million
+    else:
+        share = (2 * shared * million + united) // (2 * united)
+        lower, upper = share_bounds(0 if exact else options["--bounds"] or 2, shared, united)
+    shares = ["%d.%06d" % divmod(it, million) for it in (share, lower, upper)]
+    rest = [json.dumps(it) for it in (exact, shared, united, theta)]
+    names = "similarity lower upper exact shared united theta".split()
+    if options["form"] == "--tsv":
+        return "\t".join(names) + "\n" + "\t".join(shares + rest) + "\n"
+    if options["form"] == "--json":
+        return "{" + ",".join(f'"{name}":{it}' for name, it in zip(names, shares + rest)) + "}\n"
+    return " ".join(shares if options["--bounds"] else shares[:1]) + "\n"
+
+
 def escaped(name):
     """A name whose control characters are escaped."""
     short = {"\t": r"\t", "\r": r"\r", "\n": r"\n"}
@@ -505,6 +547,16 @@ def number_of(option, value):
     return int(value)
 
 
+def size_of(value):
+    """The least `lg_k` whose standard error, 1 over the square root of 2^lg_k, is at most so many percent."""
+    found = re.fullmatch(r"([0-9]+(?:\.[0-9]{1,4})?)%?", value)
+    percent = fractions.Fraction(found[1] if found else 0)
+    sizes = [it for it in range(4, 27) if 2**it * percent**2 >= 100**2]
+    if not sizes or percent > 100:
+        raise Fault(f"--error {value}")
+    return sizes[0]
+
+
 def set_option(command, options, words):
     """Sets the option that the words begin with; takes its words off."""
     word = words.pop(0)
@@ -536,6 +588,8 @@ def set_option(command, options, words):
         raise Fault("another order than name and estimate")
     if option in ("--seed", "--seed-file"):
         options["seed"] = option, value if option == "--seed-file" else number_of(option, value)
+    elif option == "--error":
+        options["--lg-k"] = size_of(value)
     else:
         options[option] = number_of(option, value) if option in RANGES else value
 
@@ -743,7 +797,7 @@ def called(name):
 
 
 def images_in(files, names, hex_lines):
-    """The name in messages, the name in answers, and the bytes of each image, in turn."""
+    """The name in messages, the name in answers, and the bytes of each image, or why it has none, in turn."""
     for name in names:
         text = text_of(files, name)
         shown = escaped(called(name))
@@ -751,12 +805,11 @@ def images_in(files, names, hex_lines):
             yield f"{shown}: ", called(name), text
             continue
         if not text:
-            raise Failure(f"{shown}: is empty: recreate it, or omit it")
+            yield f"{shown}: ", called(name), Failure("is empty: recreate it, or omit it")
         for number, line in enumerate(lines_of(text), 1):
             digits = line.strip(b" \t\r\f")
-            if not re.fullmatch(rb"([0-9a-fA-F]{2})*", digits):
-                raise Failure(f"{shown}: line {number} is not hexadecimal")
-            yield f"{shown}: line {number} ", called(name), bytes.fromhex(digits.decode())
+            is_hex = re.fullmatch(rb"([0-9a-fA-F]{2})*", digits)
+            yield f"{shown}: line {number} ", called(name), bytes.fromhex(digits.decode()) if is_hex else Failure("is not hexadecimal")
 
 
 def advice(command, image, of_sums):
@@ -772,16 +825,23 @@ def advice(command, image, of_sums):
     return "; pass --keys if the expression's files have lines" if command == "eval" else "; count or sketch reads lines"
 
 
-def sketches_in(command, files, names, hex_lines, own_hash, of_sums=False, places=None):
-    """The name and the sketch of each image. Where it is goes to places."""
+def sketches_in(command, files, names, hex_lines, own_hash, of_sums=False, places=None, passed=None):
+    """The name and the sketch of each image. Where it is goes to places. Failures go to those that are passed over, if these are given."""
     for place, name, image in images_in(files, names, hex_lines):
         try:
             if places is not None:
                 places.append(place)
-            yield name, (sums_of_image if of_sums else sketch_of_image)(image, own_hash)
+            if isinstance(image, Failure):
+                raise image
+            sketch = (sums_of_image if of_sums else sketch_of_image)(image, own_hash)
         except Failure as flaw:
             added = "" if hex_lines or "hexadecimal" in str(flaw) else advice(command, image, of_sums)
-            raise Failure(f"{place}{flaw}{added}") from None
+            failure = Failure(f"{place}{flaw}{added}")
+            if passed is None:
+                raise failure from None
+            passed.append(failure)
+            continue
+        yield name, sketch
 
 
 def seed_of(files, options):
@@ -895,7 +955,7 @@ def run(words, files, messages):
     for dir in options["dirs"]:
         files = InFolder(files, dir)
     hex_lines = options["--hex"]
-    if command == "minus" and not hex_lines and len(names) != 2:
+    if command in ("minus", "similarity") and not hex_lines and len(names) != 2:
         raise Fault("not two files")
     reads_images = command not in ("count", "sketch", "eval", "visits", "sum") or options["--groups"] or command == "visits" and options["--sums"]
     if reads_images and not names and "--files0-from" not in options:
@@ -977,6 +1037,10 @@ def run(words, files, messages):
         if of_sums and options["--output"] is None:
             return printed_total(sketch, options).encode()
         rows = [(names[0], sketch)]
+    elif command == "show":
+        if not names:
+            raise Fault("no image")
+        rows = list(sketches_in(command, files, names, hex_lines, seed_hash(seed), passed=messages))
     else:
         of_sums, places, rows = bool(options["--sums"]), [], []
         for row in sketches_in(command, files, names, hex_lines, seed_hash(seed), of_sums, places):
@@ -986,6 +1050,10 @@ def run(words, files, messages):
                 raise Failure(f"{place}: the sum of a key is above {M64} with this image")
         if not rows:
             raise Fault("no image")
+    if command == "similarity":
+        if len(rows) != 2:
+            raise Fault("not two images")
+        return printed_similarity(rows[0][1], rows[1][1], options).encode()
     if command in ("count", "show") or command == "eval" and options["--output"] is None:
         return printed([(name, report_of(it, z)) for name, it in rows], options, command).encode()
     if command == "visits":
@@ -1017,6 +1085,11 @@ def case_files(files):
 SYSTEM = b": No such file or directory", b": Not a directory", b": is a directory"
 
 
+def status_of(messages):
+    """The status if an answer is written: 1 if a message is the failure of a file that was passed over."""
+    return int(any(isinstance(it, Failure) for it in messages))
+
+
 def wrong_in(case, data):
     """What differs in a case, if anything. These are the files of the folder in which it runs."""
     files = data | case_files(case.before) | {"-": case.input}
@@ -1026,6 +1099,7 @@ def wrong_in(case, data):
         raise Uncomputed("an error of the system")
     try:
         answer = run(case.arguments, files, messages)
+        status = status_of(messages)
     except Fault:
         status, messages = 2, None
     except Failure as failure:
@@ -1128,6 +1202,7 @@ def main():
         sys.exit(print(f"distinct: {failure}", file=sys.stderr) or 1)
     for it in messages:
         print(f"distinct: {it}", file=sys.stderr)
+    sys.exit(status_of(messages))
 
 
 if __name__ == "__main__":

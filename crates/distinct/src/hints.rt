@@ -87,7 +87,7 @@ impl fmt::Display for Hint<'_> {
             Failure::Arguments(Fault::UnknownOption(_)) => {
                 write!(f, " of {command} (try distinct {command} --help)")
             }
-            Failure::NoFiles => write!(f, " (try distinct {command} --help)"),
+            Failure::NoFiles | Failure::NotTwo => write!(f, " (try distinct {command} --help)"),
             Failure::Memory if has_size(command) => write!(f, "; try a smaller --lg-k"),
             Failure::NoSketch(_, 0, Flaw::Image(ImageFlaw::Family(9))) => {
                 if command == "eval" {

@@ -23,7 +23,7 @@ use distinct_arguments::{
 };
 use distinct_commands::{Operands, group_files, only_expression, perform};
 use distinct_inputs::{Files, Inputs, files_in_list, seed_of};
-use distinct_messages::Failure;
+use distinct_messages::{Failure, passed_status};
 use keys_lines::Key;
 use sketch_base::DEFAULT_UPDATE_SEED;
 use std::env;
@@ -33,20 +33,30 @@ use std::process::ExitCode;
 
 fn main(rt: HostRuntime) -> ExitCode {
     match run(&rt) {
-        Ok(()) => ExitCode::from(0),
-        Err(failure) => {
-            let status = failure.status();
+        Ok(passed) => {
             let words = words_of(&rt);
-            let hint = Hint {
-                failure: &failure,
-                words: words_behind_dirs(words.as_slice()),
-            };
-            if !failure.is_closed_output() {
-                let _ = eprintln!(rt; "distinct: {failure}{hint}");
+            for failure in passed.as_slice() {
+                report(&rt, words.as_slice(), failure);
             }
-            ExitCode::from(status)
+            ExitCode::from(passed_status(passed.as_slice()))
+        }
+        Err(failure) => {
+            let words = words_of(&rt);
+            if !failure.is_closed_output() {
+                report(&rt, words.as_slice(), &failure);
+            }
+            ExitCode::from(failure.status())
         }
     }
+}
+
+/// Prints the message of a failure of these arguments, and what to do about it.
+fn report(rt: &HostRuntime, words: &[String], failure: &Failure) {
+    let hint = Hint {
+        failure,
+        words: words_behind_dirs(words),
+    };
+    let _ = eprintln!(rt; "distinct: {failure}{hint}");
 }
 
 /// The program's arguments; none if one is not text, or if memory is refused.
@@ -122,7 +132,8 @@ fn enter_dirs(rt: &HostRuntime, words: &[String], options: &Options<'_>) -> Resu
     }
 }
 
-fn run(rt: &HostRuntime) -> Result<(), Failure> {
+/// Does what the arguments say. It returns the failures of the files that were passed over.
+fn run(rt: &HostRuntime) -> Result<Vec<Failure>, Failure> {
     let Ok(args) = env::args(rt) else {
         return Err(text_failure(rt));
     };
@@ -156,7 +167,7 @@ fn run_eval(
     options: Options<'_>,
     words: &[String],
     files: &[String],
-) -> Result<(), Failure> {
+) -> Result<Vec<Failure>, Failure> {
     let expression = only_expression(rt.alloc(), files)?;
     if options.seed == Seed::File("-") && has_standard(expression.names.as_slice()) {
         return Err(Failure::Arguments(Fault::StandardTwice));
@@ -222,7 +233,7 @@ fn check_terminal(
 ) -> Result<(), Failure> {
     let prints_counts = command == Command::Count || command == Command::Show;
     let prints_sums = command == Command::Visits || command == Command::Sum;
-    let writes_image = !prints_counts && !prints_sums;
+    let writes_image = !prints_counts && !prints_sums && command != Command::Similarity;
     let is_printed = options.output.is_none() && options.folder.is_none();
     if writes_image && !options.hex && is_printed && rt.stdout().is_terminal() {
         Err(Failure::Terminal)
@@ -238,7 +249,7 @@ fn run_request(
     request: Request<'_>,
     seed: u64,
     operands: Operands<'_>,
-) -> Result<(), Failure>
+) -> Result<Vec<Failure>, Failure>
     requires seeded { seed_hash seed ≢ 0 }
     requires suits { SuitsAction (request_action request) operands }
 {
@@ -248,7 +259,8 @@ fn run_request(
     }
     if let Request::Run(Command::Sketch, options, _) = request {
         if let (Some(folder), Some(by)) = (options.folder, options.group()) {
-            return run_folder(rt, &options, seed, by, folder, opened);
+            run_folder(rt, &options, seed, by, folder, opened)?;
+            return Ok(Vec::new(rt.alloc()));
         }
     }
     let alloc = rt.alloc();
@@ -268,8 +280,9 @@ fn run_request(
         }
         Some(name) => {
             let mut bytes = Vec::new(alloc);
-            perform(alloc, request, seed, operands, sources, watched, &mut bytes)?;
-            output::put_file(rt, name, bytes.as_slice())
+            let passed = perform(alloc, request, seed, operands, sources, watched, &mut bytes)?;
+            output::put_file(rt, name, bytes.as_slice())?;
+            Ok(passed)
         }
     }
 }

@@ -4,6 +4,7 @@ use Rattle.std.specs.List.{filter}
 use Rattle.std.specs.Str.{bytes_eq}
 use Rattle.estimates.specs.declared.bounds.Deviations.{Deviations}
 use Rattle.distinct_arguments.specs.Words.{number_of, byte_of, deviations_of, order_of, mode_of, is_help, is_option, split_option}
+use Rattle.distinct_arguments.specs.Precision.{size_of}
 use Rattle.distinct_arguments.specs.Shares.{ShareNumbers, share_of}
 use Rattle.distinct_arguments.specs.Table.{rows, has_row, option_of, name_of, short_of, kind_of}
 use Rattle.distinct_arguments.specs.Settings.{OptionValues, Mistake, seed_number, unknown_option, wrong_value, seed_in, value_or, with_seed}
@@ -35,6 +36,7 @@ once o.FileList = refl
 once o.Part = refl
 once o.Dir = refl
 once o.LgK = refl
+once o.Error = refl
 once o.Seed = refl
 once o.SeedFile = refl
 once o.By = refl
@@ -68,6 +70,7 @@ named o.FileList = refl
 named o.Part = refl
 named o.Dir = refl
 named o.LgK = refl
+named o.Error = refl
 named o.Seed = refl
 named o.SeedFile = refl
 named o.By = refl
@@ -100,6 +103,7 @@ short_named o.FileList = tt
 short_named o.Part = tt
 short_named o.Dir = tt
 short_named o.LgK = refl
+short_named o.Error = tt
 short_named o.Seed = tt
 short_named o.SeedFile = tt
 short_named o.By = tt
@@ -155,6 +159,10 @@ listed_sum : ListsOptions command.Sum
 unfolding rows
 listed_sum = refl
 
+listed_similarity : ListsOptions command.Similarity
+unfolding rows
+listed_similarity = refl
+
 pub listed : (c : Command) → ListsOptions c
 listed command.Count = listed_count
 listed command.Sketch = listed_sketch
@@ -165,6 +173,7 @@ listed command.Show = listed_show
 listed command.Eval = listed_eval
 listed command.Visits = listed_visits
 listed command.Sum = listed_sum
+listed command.Similarity = listed_similarity
 
 -- a number, a text and a seed that replace others
 last_number : (options : OptionValues) (option : OptionName) (m n : ℕ) → set_number (set_number options option m) option n ≡ set_number options option n
@@ -180,6 +189,7 @@ last_number options o.FileList m n = refl
 last_number options o.Part m n = refl
 last_number options o.Dir m n = refl
 last_number options o.LgK m n = refl
+last_number options o.Error m n = refl
 last_number options o.Seed m n = refl
 last_number options o.SeedFile m n = refl
 last_number options o.By m n = refl
@@ -211,6 +221,7 @@ last_text options o.FileList m n = refl
 last_text options o.Part m n = refl
 last_text options o.Dir m n = refl
 last_text options o.LgK m n = refl
+last_text options o.Error m n = refl
 last_text options o.Seed m n = refl
 last_text options o.SeedFile m n = refl
 last_text options o.By m n = refl
@@ -254,6 +265,9 @@ set_sort options order = record options { sort = Some order }
 abbrev set_mode : OptionValues → Mode → OptionValues
 set_mode options mode = record options { summary = Some mode }
 
+abbrev set_size : OptionValues → ℕ → OptionValues
+set_size options n = record options { lg_k = n }
+
 abbrev set_part : OptionValues → ShareNumbers → OptionValues
 set_part options share = record options { part = Some share }
 
@@ -279,6 +293,8 @@ last_of_kind kind.Order options between option name other first last is =
     last_read set_sort (λ o m n. refl) (order_of first) (order_of last) (wrong_value option first) (wrong_value option last) options between is
 last_of_kind kind.Mode options between option name other first last is =
     last_read set_mode (λ o m n. refl) (mode_of first) (mode_of last) (wrong_value option first) (wrong_value option last) options between is
+last_of_kind kind.Percent options between option name other first last is =
+    last_read set_size (λ o m n. refl) (size_of first) (size_of last) (wrong_value option first) (wrong_value option last) options between is
 last_of_kind kind.Share options between option name other first last is =
     last_read set_part (λ o m n. refl) (share_of first) (share_of last) (wrong_value option first) (wrong_value option last) options between is
 last_of_kind kind.Text options between option name other first last is =

@@ -7,3 +7,4 @@ pub mod Arguments
 pub mod Faults
 pub mod Texts
 pub mod Shares
+pub mod Precision

@@ -9,6 +9,7 @@ use Rattle.keys_lines.specs.declared.key.Key.TheVariants.{Line, Field as FieldKe
 use Rattle.estimates.specs.declared.bounds.Deviations.{Deviations}
 use Rattle.estimates.specs.declared.bounds.Deviations.TheVariants.{Two}
 use Rattle.distinct_arguments.specs.Words.{number_of, byte_of, deviations_of, order_of, mode_of}
+use Rattle.distinct_arguments.specs.Precision.{size_of}
 use Rattle.distinct_arguments.specs.Shares.{ShareNumbers, numbers_of, share_of}
 use Rattle.distinct_arguments.specs.declared.commands.Command.{Command}
 use Rattle.distinct_arguments.specs.declared.commands.Command.TheVariants.{Count, Visits as VisitsCommand}
@@ -22,7 +23,7 @@ use Rattle.distinct_arguments.specs.declared.options.Seed.TheVariants.{Number as
 use Rattle.distinct_arguments.specs.declared.options.Options.{Options}
 use Rattle.distinct_arguments.specs.declared.table.OptionName.{OptionName}
 use Rattle.distinct_arguments.specs.declared.table.OptionName.TheVariants.{Field, Separator, Value, Summary, Visits, Keys, Sums}
-use Rattle.distinct_arguments.specs.declared.table.OptionName.TheVariants.{Hex, FileList, Part, Dir, LgK, Seed, SeedFile, By}
+use Rattle.distinct_arguments.specs.declared.table.OptionName.TheVariants.{Hex, FileList, Part, Dir, LgK, Error, Seed, SeedFile, By}
 use Rattle.distinct_arguments.specs.declared.table.OptionName.TheVariants.{Groups, Expect, Sort, Min, Top, Progress, Bounds, Tsv}
 use Rattle.distinct_arguments.specs.declared.table.OptionName.TheVariants.{Json, Human, OutputDir, Output, Force, Quiet}
 use Rattle.distinct_arguments.specs.declared.table.Kind.{Kind}
@@ -155,7 +156,7 @@ abbrev pub is_json : Form → Bool
 is_json JsonForm = true
 is_json _ = false
 
--- whether an option is given; of `--lg-k` and `--seed`, whose defaults aren't marked, it is false
+-- whether an option is given; of `--lg-k`, `--error` and `--seed`, whose defaults aren't marked, it is false
 abbrev pub is_given : OptionValues → OptionName → Bool
 is_given options Field = is_some options.field
 is_given options Separator = is_some options.separator
@@ -169,6 +170,7 @@ is_given options FileList = is_some options.list
 is_given options Part = is_some options.part
 is_given options Dir = is_some options.dir
 is_given options LgK = false
+is_given options Error = false
 is_given options Seed = false
 is_given options SeedFile = is_file options.seed
 is_given options By = is_some options.by
@@ -268,6 +270,7 @@ value_of kind.Byte options option name value = value_or (wrong_value option valu
 value_of kind.Seed options option name value = with_seed options (seed_in value)
 value_of kind.Deviations options option name value = value_or (wrong_value option value) (λ d. record options { bounds = Some d }) (deviations_of value)
 value_of kind.Order options option name value = value_or (wrong_value option value) (λ order. record options { sort = Some order }) (order_of value)
+value_of kind.Percent options option name value = value_or (wrong_value option value) (λ size. record options { lg_k = size }) (size_of value)
 value_of kind.Share options option name value = value_or (wrong_value option value) (λ share. record options { part = Some share }) (share_of value)
 value_of kind.Mode options option name value = value_or (wrong_value option value) (λ mode. record options { summary = Some mode }) (mode_of value)
 value_of kind.Text options option name value = Ok (set_text options option value)

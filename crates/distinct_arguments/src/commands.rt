@@ -27,6 +27,8 @@ pub enum Command {
     Visits,
     /// Prints the total of the numbers in a field of lines.
     Sum,
+    /// Prints how similar two images are.
+    Similarity,
 }
 
 /// What the program prints without reading a file.

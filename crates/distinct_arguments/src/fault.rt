@@ -121,6 +121,10 @@ impl fmt::Display for Kind {
             Kind::Deviations => write!(f, "1, 2 or 3, as in --bounds=2"),
             Kind::Order => write!(f, "name or estimate"),
             Kind::Mode => write!(f, "sum, min or max"),
+            Kind::Percent => write!(
+                f,
+                "a percentage from 0.0123 to 100 with at most 4 decimal places, as 0.4%"
+            ),
             Kind::Share => write!(f, "a part and the number of parts, as 1/8 to 8/8"),
             Kind::Text => write!(f, "any text"),
         }

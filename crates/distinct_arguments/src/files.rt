@@ -60,6 +60,7 @@ fn reads_lines(command: Command) -> bool
         Command::Eval => false,
         Command::Visits => true,
         Command::Sum => true,
+        Command::Similarity => false,
     }
 }
 

@@ -16,10 +16,11 @@ sketches of them, which can be united, intersected and subtracted
   distinct eval 'mon.theta & tue.theta'  prints the count of a set expression
   distinct visits access.log             prints how many lines occur how often
   distinct sum --value 3 spent.txt       prints the total of a field's numbers
+  distinct similarity a.theta b.theta    prints how similar two sketches are
 
-Commands: count, sketch, union, meet, minus, show, eval, visits, sum.
-distinct COMMAND --help has the options of each and more examples, -h too; the
-page docs/use/DISTINCT.md has the rest. --version and -V print the version.
+Commands: count, sketch, union, meet, minus, show, eval, visits, sum,
+similarity. distinct COMMAND --help has the options and more examples of each,
+-h too; docs/use/DISTINCT.md has the rest. --version and -V print the version.
 
 Options may stand before and behind files, until -- ends them. A file named -
 is standard input. A command that reads lines does so from there if it has no
@@ -48,6 +49,8 @@ Read:
 Count:
   -k, --lg-k N            keep 2^N hashes, N from 4 to 26; default 16, with a standard error of
                           0.4 percent
+      --error P           keep the fewest hashes whose standard error is at most P percent, such
+                          as 0.4%. P is from 0.0123 to 100. Of --lg-k and --error the last counts
       --seed N            the seed of the hashes, from 0 to 2^64 - 1; default 9001
       --seed-file FILE    read the seed from FILE, which keeps it out of the process list
       --by N              count each group of lines that have the same field N, as in cut -f N.
@@ -99,6 +102,8 @@ Read:
 
 Count:
   -k, --lg-k N            keep 2^N hashes, N from 4 to 26; default 12
+      --error P           keep the fewest hashes whose standard error is at most P percent, such
+                          as 0.4%. P is from 0.0123 to 100. Of --lg-k and --error the last counts
       --seed N            the seed of the hashes, from 0 to 2^64 - 1; default 9001
       --seed-file FILE    read the seed from FILE, which keeps it out of the process list
       --by N              with --hex: sketch each group of lines that have the same field N.
@@ -283,6 +288,8 @@ Read:
 Count:
   -k, --lg-k N            keep 2^N hashes, N from 4 to 26; default 16. Up to 2^N distinct lines
                           the numbers are exact, beyond that they are estimates
+      --error P           keep the fewest hashes whose standard error is at most P percent, such
+                          as 0.4%. P is from 0.0123 to 100. Of --lg-k and --error the last counts
       --seed N            the seed of the hashes, from 0 to 2^64 - 1; default 9001
       --seed-file FILE    read the seed from FILE, which keeps it out of the process list
 
@@ -316,6 +323,8 @@ Read:
 
 Count:
   -k, --lg-k N            keep 2^N hashes, N from 4 to 26; default 12
+      --error P           keep the fewest hashes whose standard error is at most P percent, such
+                          as 0.4%. P is from 0.0123 to 100. Of --lg-k and --error the last counts
       --seed N            the seed of the hashes, from 0 to 2^64 - 1; default 9001
       --seed-file FILE    read the seed from FILE, which keeps it out of the process list
 
@@ -327,6 +336,34 @@ Print:
 Examples:
   distinct sum -f2 --value 3 spent.txt          what all users spent together
   distinct sum --value 2 -d, --json prices.csv  of a file with commas, as JSON
+";
+
+const SIMILARITY: &str = "\
+distinct similarity [OPTION..] IMAGE IMAGE: prints how similar two sketches are: the share of the
+lines that both saw among those that at least one saw (the Jaccard similarity), from 0 to 1
+
+  The number has six decimals, rounded to the nearest. If both sketches are exact, so is it; else
+  it is the share among the hashes that they retain below the lesser theta, or 0.5 if these are
+  none. Two empty sketches have 1.
+
+Read:
+      --hex               images in hexadecimal, one per line
+  -C DIR                  names of files are relative to the folder DIR
+
+Count:
+      --seed N            the seed of the images, from 0 to 2^64 - 1; default 9001
+      --seed-file FILE    read the seed from FILE, which keeps it out of the process list
+
+Print:
+      --bounds[=Z]        print three numbers: the estimate, its lower and its upper bound, for
+                          Z standard deviations; Z is 1, 2 or 3, default 2
+      --tsv               print values separated by tabs, under a line of their names
+      --json              print a JSON object
+  -q, --quiet             print no remarks and warnings on standard error
+
+Examples:
+  distinct similarity mon.theta tue.theta         how much two days have in common
+  distinct similarity --json mon.theta tue.theta  with bounds and hashes, for a program
 ";
 
 /// The text on a topic.
@@ -345,5 +382,6 @@ pub fn text_of(topic: Topic) -> &'static str
         Topic::Help(Command::Eval) => EVAL,
         Topic::Help(Command::Visits) => VISITS,
         Topic::Help(Command::Sum) => SUM,
+        Topic::Help(Command::Similarity) => SIMILARITY,
     }
 }

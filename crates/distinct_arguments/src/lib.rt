@@ -12,6 +12,7 @@ mod help;
 pub mod laws;
 mod options;
 mod places;
+mod precision;
 mod settings;
 mod share;
 mod table;

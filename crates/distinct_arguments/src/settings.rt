@@ -11,6 +11,7 @@ ghost use Rattle.distinct_arguments.specs.Table.{kind_of};
 use crate::commands::Command;
 use crate::fault::{Fault, WrongWord, quoting};
 use crate::options::{Form, Mode, Options, Seed};
+use crate::precision::size_of;
 use crate::table::{Kind, OptionName, kind_of};
 use crate::words::{byte_of, deviations_of, mode_of, number_of, order_of, share_of};
 use core_laws::DEFAULT_LG_K;
@@ -111,7 +112,8 @@ impl<'a> Options<'a> {
     }
 }
 
-/// Whether an option is given. Of `--lg-k` and `--seed`, whose defaults aren't marked, it is false: no rule names them.
+/// Whether an option is given. Of `--lg-k`, `--error` and `--seed`, whose defaults aren't marked, it is false: no rule
+/// names them.
 pub(crate) fn is_given(options: &Options<'_>, option: OptionName) -> bool
     ensures { result ≡ is_given (options_of options.now) option }
 {
@@ -128,6 +130,7 @@ pub(crate) fn is_given(options: &Options<'_>, option: OptionName) -> bool
         OptionName::Part => options.part.is_some(),
         OptionName::Dir => options.dir.is_some(),
         OptionName::LgK => false,
+        OptionName::Error => false,
         OptionName::Seed => false,
         OptionName::SeedFile => is_file(options.seed),
         OptionName::By => options.by.is_some(),
@@ -326,6 +329,10 @@ pub(crate) fn with_value<'a>(
         },
         Kind::Deviations => {
             changed.bounds = Some(given(alloc, option, value, deviations_of(value))?);
+            Ok(changed)
+        }
+        Kind::Percent => {
+            changed.lg_k = given(alloc, option, value, size_of(value))?;
             Ok(changed)
         }
         Kind::Share => {

@@ -25,6 +25,7 @@ pub enum OptionName {
     Part,
     Dir,
     LgK,
+    Error,
     Seed,
     SeedFile,
     By,
@@ -61,6 +62,8 @@ pub(crate) enum Kind {
     Order,
     /// The name of a way to combine the numbers of a key.
     Mode,
+    /// A percentage of standard error.
+    Percent,
     /// The number of a part of each file, a slash, and the number of parts.
     Share,
     /// Any text.
@@ -97,13 +100,22 @@ pub(crate) type Row = (
 
 /// All commands.
 const ALL: &[&str] = &[
-    "count", "sketch", "union", "meet", "minus", "show", "eval", "visits", "sum",
+    "count",
+    "sketch",
+    "union",
+    "meet",
+    "minus",
+    "show",
+    "eval",
+    "visits",
+    "sum",
+    "similarity",
 ];
 /// The greatest number of a field, and of images.
 const MOST: u64 = 4294967295;
 
 /// The options: what is read, how it is counted, and what is printed. If several rules are broken, the first counts.
-pub(crate) const OPTIONS: [Row; 29] = [
+pub(crate) const OPTIONS: [Row; 30] = [
     (
         OptionName::Field,
         "--field",
@@ -222,7 +234,15 @@ pub(crate) const OPTIONS: [Row; 29] = [
         None,
         Kind::Flag,
         &[
-            "count", "sketch", "union", "meet", "minus", "show", "eval", "visits",
+            "count",
+            "sketch",
+            "union",
+            "meet",
+            "minus",
+            "show",
+            "eval",
+            "visits",
+            "similarity",
         ],
         &[
             (
@@ -271,6 +291,14 @@ pub(crate) const OPTIONS: [Row; 29] = [
         Some("-k"),
         Kind::Number(4, 26),
         &["count", "sketch", "union", "eval", "visits", "sum"],
+        &[],
+    ),
+    (
+        OptionName::Error,
+        "--error",
+        None,
+        Kind::Percent,
+        &["count", "sketch", "visits", "sum"],
         &[],
     ),
     (OptionName::Seed, "--seed", None, Kind::Seed, ALL, &[]),
@@ -360,7 +388,7 @@ pub(crate) const OPTIONS: [Row; 29] = [
         "--bounds",
         None,
         Kind::Deviations,
-        &["count", "show", "eval", "visits"],
+        &["count", "show", "eval", "visits", "similarity"],
         &[],
     ),
     (
@@ -368,7 +396,7 @@ pub(crate) const OPTIONS: [Row; 29] = [
         "--tsv",
         None,
         Kind::Flag,
-        &["count", "show", "eval", "visits", "sum"],
+        &["count", "show", "eval", "visits", "sum", "similarity"],
         &[],
     ),
     (
@@ -376,7 +404,7 @@ pub(crate) const OPTIONS: [Row; 29] = [
         "--json",
         None,
         Kind::Flag,
-        &["count", "show", "eval", "visits", "sum"],
+        &["count", "show", "eval", "visits", "sum", "similarity"],
         &[],
     ),
     (
@@ -425,7 +453,7 @@ pub(crate) const OPTIONS: [Row; 29] = [
 ];
 
 /// The rows of the table.
-pub(crate) fn all_rows() -> [Row; 29]
+pub(crate) fn all_rows() -> [Row; 30]
     ensures { map row_in result ≡ rows }
 {
     OPTIONS

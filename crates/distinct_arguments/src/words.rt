@@ -28,6 +28,7 @@ pub fn command_of(word: &str) -> Option<Command>
         "eval" => Some(Command::Eval),
         "visits" => Some(Command::Visits),
         "sum" => Some(Command::Sum),
+        "similarity" => Some(Command::Similarity),
         _ => None,
     }
 }
@@ -47,6 +48,7 @@ pub fn word_of(command: Command) -> &'static str
         Command::Eval => "eval",
         Command::Visits => "visits",
         Command::Sum => "sum",
+        Command::Similarity => "similarity",
     }
 }
 

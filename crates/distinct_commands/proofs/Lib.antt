@@ -4,6 +4,9 @@ pub mod NextImages
 pub mod Evaluated
 pub mod FirstItems
 pub mod Ranking
+pub mod ShownImages
+pub mod ShowFailures
 pub mod GroupLines
 pub mod Answered
 pub mod Failing
+pub mod Overlaps

@@ -10,7 +10,8 @@ use Rattle.sketch_base.specs.declared.error.ErrorKind.TheVariants.{OutOfMemory, 
 use Rattle.keys_sketches.specs.Sources.{Continues, GivesNext}
 use Rattle.keys_sketches.proofs.Refused.{faulty_next}
 use Rattle.keys_sketches.specs.Shards.{AreRead}
-use Rattle.distinct_commands.specs.Answers.{AreShownByName, AreShown, IsExpected, IsIntersectionImage, intersection_of}
+use Rattle.distinct_commands.specs.Answers.{IsExpected, IsIntersectionImage}
+use Rattle.distinct_commands.specs.Combined.{intersection_of}
 use Rattle.distinct_messages.specs.Failures.{display_name}
 use Rattle.distinct_inputs.specs.Failures.{AreCounted, IsOfImages}
 use Rattle.distinct_messages.specs.declared.failure.Failure.{Failure}
@@ -44,84 +45,6 @@ module _ (seed : ℕ) where
   reads_more None now new o s sketches so_far next is = tt
   reads_more (Some all) None new o s sketches so_far next is = absurd so_far
   reads_more (Some all) (Some left) new o s sketches so_far next is = one_read all so_far.0 left sketches s new so_far.1 so_far.2 (subst (ReadsNext seed (Some left) new) is next)
-
-module _ (options : OptionValues) (seed : ℕ) where
-  -- ---- lines on images
-
-  -- the lines so far, followed by those of the images that are left, are all lines
-  abbrev pub ShowsOn : (old : Option (List (List ℕ))) (names : List (List ℕ)) (shown : List ℕ) (now : Option (List (List ℕ))) (left : List (List ℕ)) → Type 0
-  ShowsOn None names shown now left = Unit {0}
-  ShowsOn (Some all) names shown None left = ⊥
-  ShowsOn (Some all) names shown (Some images) left = (rest : List ℕ) → AreShownByName options seed left images rest → AreShownByName options seed names all (shown ++ rest)
-
-  pub shows_itself : (old : Option (List (List ℕ))) (names : List (List ℕ)) → ShowsOn old names [] old names
-  shows_itself None names = tt
-  shows_itself (Some all) names = λ rest is. is
-
-  one_shown : (all names : List (List ℕ)) (shown : List ℕ) (images : List (List ℕ)) (name : List ℕ) (others : List (List ℕ)) (s : Compact ℕ) (new : Option (List (List ℕ))) →
-      ((rest : List ℕ) → AreShownByName options seed (name ∷ others) images rest → AreShownByName options seed names all (shown ++ rest)) → ReadsFirst seed images s new → ShowsOn (Some all) names (shown ++ shown_text options (display_name name) s) new others
-  one_shown all names shown images name others s new so_far first =
-      subst (λ (o : Option (List (List ℕ))). ShowsOn (Some all) names (shown ++ shown_text options (display_name name) s) o others) (sym first.leaves) (λ rest is.
-      subst (AreShownByName options seed names all) (sym (append_assoc shown (shown_text options (display_name name) s) rest))
-      (so_far (shown_text options (display_name name) s ++ rest) (subst (λ (l : List (List ℕ)). AreShownByName options seed (name ∷ others) l (shown_text options (display_name name) s ++ rest)) (sym first.parted) (s, rest, first.reads, refl, is))))
-
-  pub shows_more : (old : Option (List (List ℕ))) (names : List (List ℕ)) (shown : List ℕ) (now : Option (List (List ℕ))) (left : List (List ℕ)) (name : List ℕ) (others : List (List ℕ)) (o : Option (Compact ℕ)) (s : Compact ℕ) (new : Option (List (List ℕ))) →
-      ShowsOn old names shown now left → left ≡ name ∷ others → ReadsNext seed now new o → o ≡ Some s → ShowsOn old names (shown ++ shown_text options (display_name name) s) new others
-  shows_more None names shown now left name others o s new so_far parted next is = tt
-  shows_more (Some all) names shown None left name others o s new so_far parted next is = absurd so_far
-  shows_more (Some all) names shown (Some images) left name others o s new so_far parted next is =
-      one_shown all names shown images name others s new (subst (λ (l : List (List ℕ)). (rest : List ℕ) → AreShownByName options seed l images rest → AreShownByName options seed names all (shown ++ rest)) parted so_far) (subst (ReadsNext seed (Some images) new) is next)
-
-  none_left : (left : List (List ℕ)) → AreShownByName options seed left [] []
-  none_left [] = refl
-  none_left (name ∷ left) = refl
-
-  pub shows_all : (old : Option (List (List ℕ))) (names : List (List ℕ)) (shown : List ℕ) (now : Option (List (List ℕ))) (left : List (List ℕ)) (o : Option (Compact ℕ)) (new : Option (List (List ℕ))) →
-      ShowsOn old names shown now left → ReadsNext seed now new o → o ≡ None → IfSome old (λ all. AreShownByName options seed names all shown)
-  shows_all None names shown now left o new so_far next is = tt
-  shows_all (Some all) names shown None left o new so_far next is = absurd so_far
-  shows_all (Some all) names shown (Some images) left o new so_far next is =
-      let none : images ≡ [] = subst (ReadsNext seed (Some images) new) is next in
-      subst (AreShownByName options seed names all) (append-nil shown) (so_far [] (subst (λ (l : List (List ℕ)). AreShownByName options seed left l []) (sym none) (none_left left)))
-
-  pub shows_named : (old : Option (List (List ℕ))) (names : List (List ℕ)) (shown : List ℕ) (now : Option (List (List ℕ))) (left : List (List ℕ)) → ShowsOn old names shown now left → left ≡ [] → IfSome old (λ all. AreShownByName options seed names all shown)
-  shows_named None names shown now left so_far none = tt
-  shows_named (Some all) names shown None left so_far none = absurd so_far
-  shows_named (Some all) names shown (Some images) left so_far none =
-      subst (AreShownByName options seed names all) (append-nil shown) (so_far [] (subst (λ (l : List (List ℕ)). AreShownByName options seed l images []) (sym none) refl))
-
-  -- ---- lines on images under any names
-
-  -- the lines so far, followed by those of the images that are left, are all lines
-  abbrev pub ShowMore : (old : Option (List (List ℕ))) (shown : List ℕ) (now : Option (List (List ℕ))) → Type 0
-  ShowMore None shown now = Unit {0}
-  ShowMore (Some all) shown None = ⊥
-  ShowMore (Some all) shown (Some images) = (rest : List ℕ) → AreShown options seed images rest → AreShown options seed all (shown ++ rest)
-
-  pub show_itself : (old : Option (List (List ℕ))) → ShowMore old [] old
-  show_itself None = tt
-  show_itself (Some all) = λ rest is. is
-
-  line_shown : (all : List (List ℕ)) (shown : List ℕ) (images : List (List ℕ)) (name : List ℕ) (s : Compact ℕ) (new : Option (List (List ℕ))) →
-      ((rest : List ℕ) → AreShown options seed images rest → AreShown options seed all (shown ++ rest)) → ReadsFirst seed images s new → ShowMore (Some all) (shown ++ shown_text options name s) new
-  line_shown all shown images name s new so_far first =
-      subst (λ (o : Option (List (List ℕ))). ShowMore (Some all) (shown ++ shown_text options name s) o) (sym first.leaves) (λ rest is.
-      subst (AreShown options seed all) (sym (append_assoc shown (shown_text options name s) rest))
-      (so_far (shown_text options name s ++ rest) (subst (λ (l : List (List ℕ)). AreShown options seed l (shown_text options name s ++ rest)) (sym first.parted) (name, s, rest, first.reads, refl, is))))
-
-  pub line_more : (old : Option (List (List ℕ))) (shown : List ℕ) (now : Option (List (List ℕ))) (name : List ℕ) (o : Option (Compact ℕ)) (s : Compact ℕ) (new : Option (List (List ℕ))) →
-      ShowMore old shown now → ReadsNext seed now new o → o ≡ Some s → ShowMore old (shown ++ shown_text options name s) new
-  line_more None shown now name o s new so_far next is = tt
-  line_more (Some all) shown None name o s new so_far next is = absurd so_far
-  line_more (Some all) shown (Some images) name o s new so_far next is = line_shown all shown images name s new so_far (subst (ReadsNext seed (Some images) new) is next)
-
-  pub lines_all : (old : Option (List (List ℕ))) (shown : List ℕ) (now : Option (List (List ℕ))) (o : Option (Compact ℕ)) (new : Option (List (List ℕ))) →
-      ShowMore old shown now → ReadsNext seed now new o → o ≡ None → IfSome old (λ all. AreShown options seed all shown)
-  lines_all None shown now o new so_far next is = tt
-  lines_all (Some all) shown None o new so_far next is = absurd so_far
-  lines_all (Some all) shown (Some images) o new so_far next is =
-      let none : images ≡ [] = subst (ReadsNext seed (Some images) new) is next in
-      subst (AreShown options seed all) (append-nil shown) (so_far [] (subst (λ (l : List (List ℕ)). AreShown options seed l []) (sym none) refl))
 
 module _ (seed : ℕ) where
   -- ---- images that are not two
@@ -191,18 +114,6 @@ all_hold remaining known images sums hex P sums_is hex_is closed holds =
 pub continues_itself : (o : Option (List (List ℕ))) → Continues o o (λ taken. Unit {0})
 continues_itself None = tt
 continues_itself (Some all) = ([], refl, tt)
-
--- one image more was read
-pub goes_on : (seed : ℕ) (old now new : Option (List (List ℕ))) (o : Option (Compact ℕ)) (s : Compact ℕ) → Continues old now (λ taken. Unit {0}) → ReadsNext seed now new o → o ≡ Some s → Continues old new (λ taken. Unit {0})
-goes_on seed None now new o s so_far next is = tt
-goes_on seed (Some all) None new o s so_far next is = absurd so_far
-goes_on seed (Some all) (Some left) new o s so_far next is =
-    let first : ReadsFirst seed left s new = subst (ReadsNext seed (Some left) new) is next in
-    subst (λ (o : Option (List (List ℕ))). Continues (Some all) o (λ taken. Unit {0})) (sym first.leaves) (
-      so_far.0 ++ first.image ∷ [],
-      so_far.1 ∙ ap (λ is. so_far.0 ++ is) first.parted ∙ sym (append_assoc so_far.0 (first.image ∷ []) first.images_after),
-      tt,
-    )
 
 -- bytes that are refused as data are no image
 pub refused_is_none : (seed : ℕ) (image : List ℕ) (e : ErrorKind) → (e ≡ OutOfMemory) ⊎ ((e ≡ InvalidData) × (IsReadable image (seed_hash seed) → ⊥)) → e ≡ InvalidData → IsNoSketch false seed image

@@ -1,15 +1,13 @@
 -- What a command writes, by the texts of its files.
 use Rattle.std.specs.Prelude.{ℕ, ◌≡◌, ◌++◌, Bool, true, false, List, [], ◌∷◌, length, Option, Some, None, IfSome}
 use Rattle.std.specs.Io.KnownBytes.{Appends}
-use Rattle.core_compact.specs.CompactState.{Compact, compact_value}
-use Rattle.core_laws.specs.Entries.{hash_key, first_hash}
-use Rattle.core_laws.specs.Operators.{meet, minus}
+use Rattle.core_compact.specs.CompactState.{Compact}
 use Rattle.theta_sketches.specs.Image.{Reads, written}
 use Rattle.sketch_base.specs.Seed.{seed_hash}
 use Rattle.tuple_sketches.specs.declared.numbers.SummaryMode.{SummaryMode}
 use Rattle.keys_lines.specs.Lines.{lines_of_all}
 use Rattle.keys_sketches.specs.Keys.{value_of_lines, sketch_of_value}
-use Rattle.keys_sketches.specs.Shards.{values_of_sketches, AreRead}
+use Rattle.keys_sketches.specs.Shards.{AreRead}
 use Rattle.keys_sketches.specs.Unions.{IsUnitedImage, UnitesTexts}
 use Rattle.keys_sums.specs.Unions.{IsUnitedSumsImage, UnitesSumsOfTexts}
 use Rattle.keys_sums.specs.declared.addends.Amount.{Amount}
@@ -17,18 +15,21 @@ use Rattle.distinct_arguments.specs.Settings.{OptionValues, chosen_group, chosen
 use Rattle.keys_groups.specs.United.{IsUnitedText}
 use Rattle.distinct_arguments.specs.Arguments.{Action, prints, runs, fails}
 use Rattle.distinct_arguments.specs.Texts.{text_of}
-use Rattle.distinct_messages.specs.Failures.{display_name}
 use Rattle.distinct_inputs.specs.Failures.{chosen_amount, chosen_hashing, chosen_summary, unites_groups, unites_sums}
+use Rattle.distinct_commands.specs.Combined.{intersection_of, difference_of}
 use Rattle.distinct_commands.specs.Eval.{IsEvaluatedOf}
 use Rattle.distinct_inputs.specs.Images.{images_of, in_form}
 use Rattle.distinct_commands.specs.Groups.{IsGroupedText, IsUnitedCount}
 use Rattle.keys_lines.specs.declared.key.Key.{Key}
-use Rattle.distinct_commands.specs.Texts.{count_text, shown_text, head_of}
+use Rattle.distinct_commands.specs.Texts.{count_text}
+use Rattle.distinct_commands.specs.Showing.{IsShownOf}
 use Rattle.distinct_commands.specs.Sums.{IsSumsText, IsTotalText}
 use Rattle.distinct_commands.specs.Visits.{IsVisitsText}
+use Rattle.distinct_commands.specs.Similarity.{IsComparedOf}
+use Rattle.distinct_messages.specs.declared.failure.Failure.{Failure}
 use Rattle.distinct_arguments.specs.declared.commands.Command.{Command}
 use Rattle.distinct_arguments.specs.declared.commands.Command.TheVariants.{Count, Sketch, Combine, Show, Eval}
-use Rattle.distinct_arguments.specs.declared.commands.Command.TheVariants.{Visits, Sum}
+use Rattle.distinct_arguments.specs.declared.commands.Command.TheVariants.{Visits, Sum, Similarity}
 use Rattle.distinct_arguments.specs.declared.commands.Operator.{Operator}
 use Rattle.distinct_arguments.specs.declared.commands.Operator.TheVariants.{Union, Meet, Minus}
 
@@ -36,13 +37,6 @@ use Rattle.distinct_arguments.specs.declared.commands.Operator.TheVariants.{Unio
 -- set, under a seed
 abbrev pub sketch_of : OptionValues → (seed : ℕ) → (texts : List (List ℕ)) → Compact ℕ
 sketch_of options seed texts = sketch_of_value seed (value_of_lines (chosen_hashing options seed) options.lg_k (lines_of_all texts))
-
--- the ordered sketches of an intersection and of a difference
-abbrev pub intersection_of : (seed : ℕ) → List (Compact ℕ) → Compact ℕ
-intersection_of seed sketches = sketch_of_value seed (meet hash_key first_hash (values_of_sketches sketches))
-
-abbrev pub difference_of : (seed : ℕ) → (first second : Compact ℕ) → Compact ℕ
-difference_of seed first second = sketch_of_value seed (minus hash_key hash_key (compact_value hash_key first) (compact_value hash_key second))
 
 -- the image of the intersection of the sketches in images
 abbrev pub IsIntersectionImage : (seed : ℕ) → (images : List (List ℕ)) → List ℕ → Type 0
@@ -74,31 +68,6 @@ IsCombined Minus options seed images out = IsDifferenceImage seed images out
 -- the same for the images in files
 abbrev pub IsCombinedOf : Operator → OptionValues → (seed : ℕ) → (texts : List (List ℕ)) → List ℕ → Type 0
 IsCombinedOf operator options seed texts out = IsCombined operator options seed (images_of (unites_sums operator options) options.hex texts) out
-
--- one line per image, under the file's name
-abbrev pub AreShownByName : OptionValues → (seed : ℕ) → (names images : List (List ℕ)) → List ℕ → Type 0
-AreShownByName options seed [] images out = out ≡ []
-AreShownByName options seed (name ∷ names) [] out = out ≡ []
-AreShownByName options seed (name ∷ names) (image ∷ images) out =
-    (s : Compact ℕ) × (rest : List ℕ) × Reads image (seed_hash seed) s × (out ≡ shown_text options (display_name name) s ++ rest)
-    × AreShownByName options seed names images rest
-
--- one line per image, under any name
-abbrev pub AreShown : OptionValues → (seed : ℕ) → (images : List (List ℕ)) → List ℕ → Type 0
-AreShown options seed [] out = out ≡ []
-AreShown options seed (image ∷ images) out =
-    (name : List ℕ) × (s : Compact ℕ) × (rest : List ℕ) × Reads image (seed_hash seed) s × (out ≡ shown_text options name s ++ rest)
-    × AreShown options seed images rest
-
--- one line per image in files: under the file's name if each file is an image, under an unspecified name if each line has one
-abbrev pub AreLinesOf : (hex : Bool) → OptionValues → (seed : ℕ) → (names texts : List (List ℕ)) → List ℕ → Type 0
-AreLinesOf true options seed names texts out = AreShown options seed (images_of false true texts) out
-AreLinesOf false options seed names texts out = AreShownByName options seed names (images_of false false texts) out
-
--- .. after the head of a table, if there is to be one
-abbrev pub IsShownOf : OptionValues → (seed : ℕ) → (names texts : List (List ℕ)) → List ℕ → Type 0
-IsShownOf options seed names texts out =
-    (lines : List ℕ) × AreLinesOf options.hex options seed names texts lines × (out ≡ head_of options.form ++ lines)
 
 -- what `count` prints of the lines of texts, by the key of their groups if there is one
 abbrev pub IsCountOf : (by : Option Key) → OptionValues → (seed : ℕ) → (texts : List (List ℕ)) → List ℕ → Type 0
@@ -136,24 +105,30 @@ IsCombinedText false operator options seed texts out =
     (image : List ℕ) × IsCombinedOf operator options seed texts image × (out ≡ in_form options.hex image)
 IsCombinedText true operator options seed texts out = IsUnitedText seed options.lg_k (lines_of_all texts) out
 
--- what a command writes for files of these names and texts; the only name of `eval` is its expression
-abbrev pub IsCommandAnswer : Command → OptionValues → (seed : ℕ) → (names texts : List (List ℕ)) → List ℕ → Type 0
-IsCommandAnswer Count options seed names texts out = IsCountText options.groups options seed texts out
-IsCommandAnswer Sketch options seed names texts out = IsSketchText (chosen_amount options) (chosen_group options) options seed texts out
-IsCommandAnswer (Combine operator) options seed names texts out = IsCombinedText (unites_groups operator options) operator options seed texts out
-IsCommandAnswer Show options seed names texts out = IsShownOf options seed names texts out
-IsCommandAnswer Eval options seed names texts out = IsEvaluatedOf options seed names texts out
-IsCommandAnswer Visits options seed names texts out = IsVisitsText options.sums options seed texts out
-IsCommandAnswer Sum options seed names texts out = IsTotalText (chosen_value options) options seed texts out
+-- what a command other than `show` writes for files of these names and texts; the only name of `eval` is its expression
+abbrev pub IsWholeAnswer : Command → OptionValues → (seed : ℕ) → (names texts : List (List ℕ)) → List ℕ → Type 0
+IsWholeAnswer Count options seed names texts out = IsCountText options.groups options seed texts out
+IsWholeAnswer Sketch options seed names texts out = IsSketchText (chosen_amount options) (chosen_group options) options seed texts out
+IsWholeAnswer (Combine operator) options seed names texts out = IsCombinedText (unites_groups operator options) operator options seed texts out
+IsWholeAnswer Show options seed names texts out = ⊥
+IsWholeAnswer Eval options seed names texts out = IsEvaluatedOf options seed names texts out
+IsWholeAnswer Visits options seed names texts out = IsVisitsText options.sums options seed texts out
+IsWholeAnswer Sum options seed names texts out = IsTotalText (chosen_value options) options seed texts out
+IsWholeAnswer Similarity options seed names texts out = IsComparedOf options seed texts out
+
+-- what a command writes, and the failures of the files that it passes over: `show` of those that have no image, any other of none
+abbrev pub IsCommandAnswer : Command → OptionValues → (seed : ℕ) → (names texts : List (List ℕ)) → List ℕ → (passed : List Failure) → Type 0
+IsCommandAnswer Show options seed names texts out passed = IsShownOf options seed names texts out passed
+IsCommandAnswer command options seed names texts out passed = IsWholeAnswer command options seed names texts out × (passed ≡ [])
 
 -- the command's answer was written, and nothing else
-abbrev pub WritesAnswer : Command → OptionValues → (seed : ℕ) → (names texts : List (List ℕ)) → (old new : Option (List ℕ)) → Type 0
-WritesAnswer command options seed names texts old new =
-    (out : List ℕ) × IsCommandAnswer command options seed names texts out × Appends old new out
+abbrev pub WritesAnswer : Command → OptionValues → (seed : ℕ) → (names texts : List (List ℕ)) → (passed : List Failure) → (old new : Option (List ℕ)) → Type 0
+WritesAnswer command options seed names texts passed old new =
+    (out : List ℕ) × IsCommandAnswer command options seed names texts out passed × Appends old new out
 
 -- the program did what its arguments say: it printed the text on a topic and nothing else, or ran a command under this seed on
 -- files of these names and texts
-abbrev pub Performs : Action → (seed : ℕ) → (names texts : List (List ℕ)) → (old new : Option (List ℕ)) → Type 0
-Performs (prints topic) seed names texts old new = Appends old new (text_of topic)
-Performs (runs command options files) seed names texts old new = WritesAnswer command options seed names texts old new
-Performs (fails fault) seed names texts old new = ⊥
+abbrev pub Performs : Action → (seed : ℕ) → (names texts : List (List ℕ)) → (passed : List Failure) → (old new : Option (List ℕ)) → Type 0
+Performs (prints topic) seed names texts passed old new = Appends old new (text_of topic) × (passed ≡ [])
+Performs (runs command options files) seed names texts passed old new = WritesAnswer command options seed names texts passed old new
+Performs (fails fault) seed names texts passed old new = ⊥

@@ -14,9 +14,9 @@ use Rattle.distinct_arguments.specs.Arguments.{Action, prints, runs, fails}
 use Rattle.distinct_arguments.specs.Settings.{OptionValues}
 use Rattle.distinct_arguments.specs.declared.commands.Command.{Command}
 use Rattle.distinct_arguments.specs.declared.commands.Command.TheVariants.{Count, Sketch, Combine, Show, Eval}
-use Rattle.distinct_arguments.specs.declared.commands.Command.TheVariants.{Visits, Sum}
+use Rattle.distinct_arguments.specs.declared.commands.Command.TheVariants.{Visits, Sum, Similarity}
 use Rattle.distinct_arguments.specs.declared.fault.Fault.TheVariants.{NotOneExpression}
-use Rattle.distinct_inputs.specs.Failures.{chosen_summary, images_in, unites_groups, IsOfReading, IsOfImages, IsOfSketch}
+use Rattle.distinct_inputs.specs.Failures.{AreNotTwo, chosen_summary, images_in, unites_groups, IsOfReading, IsOfImages, IsOfSketch}
 use Rattle.distinct_messages.specs.Failures.{IsOfWriting}
 use Rattle.distinct_inputs.specs.Failures.{IsOfGroups, IsOfOperator, IsOfVisits, IsOfTotal}
 use Rattle.distinct_inputs.specs.Images.{images_of}
@@ -24,8 +24,9 @@ use Rattle.distinct_inputs.specs.Lists.{IsFirstUnnamed}
 use Rattle.distinct_messages.specs.declared.failure.Failure.{Failure}
 use Rattle.distinct_inputs.specs.declared.lists.ListError.{ListError}
 use Rattle.distinct_inputs.specs.declared.lists.ListError.TheVariants.{Name, Memory as NoMemory}
-use Rattle.distinct_messages.specs.declared.failure.Failure.TheVariants.{Arguments, NoFiles, NoExpression, NoName}
+use Rattle.distinct_messages.specs.declared.failure.Failure.TheVariants.{Arguments, NoFiles, NotTwo, NoExpression, NoName}
 use Rattle.distinct_messages.specs.declared.failure.Failure.TheVariants.{NotOneEach, PastResult, Memory}
+use Rattle.distinct_commands.specs.Showing.{EndsShow}
 use Rattle.distinct_commands.specs.declared.expression.Operands.{Operands}
 use Rattle.distinct_commands.specs.declared.expression.Operands.TheVariants as operands
 
@@ -101,17 +102,23 @@ abbrev pub IsOfCount : (of_groups : Bool) → (seed count : ℕ) → (texts : Op
 IsOfCount false seed count texts failure = IsOfReading failure
 IsOfCount true seed count texts failure = OrNoFiles (count ≡ 0) (IsOfGroups seed texts) failure
 
+-- `similarity` fails: memory, a file or its contents is at fault, or there are not two images
+abbrev pub IsOfPair : OptionValues → (seed count : ℕ) → (texts : Option (List (List ℕ))) → Failure → Type 0
+IsOfPair options seed count texts failure =
+    IsOfImages false options.hex seed (images_in false options texts) failure ⊎ ((failure ≡ NotTwo) × AreNotTwo options.hex count texts)
+
 -- a command on files of these names fails before it writes: what it reads is at fault, or memory was refused; and by command, no image
--- is named, there are not as many as are expected, `minus` doesn't have two, or `sum` doesn't have the field of its numbers
+-- is named, there are not as many as are expected, `minus` or `similarity` doesn't have two, or `sum` doesn't have the field of its numbers
 abbrev pub IsOfCommand : Command → OptionValues → (seed count : ℕ) → (texts : Option (List (List ℕ))) → Failure → Type 0
 IsOfCommand Count options seed count texts failure = IsOfCount options.groups seed count texts failure
 IsOfCommand Sketch options seed count texts failure = IsOfSketch options seed texts failure
 IsOfCommand (Combine operator) options seed count texts failure =
     OrNoFiles (count ≡ 0) (IsOfOperator (unites_groups operator options) operator options seed count texts) failure
-IsOfCommand Show options seed count texts failure = OrNoFiles (count ≡ 0) (IsOfImages false options.hex seed (images_in false options texts)) failure
+IsOfCommand Show options seed count texts failure = OrNoFiles (count ≡ 0) EndsShow failure
 IsOfCommand Eval options seed count texts failure = ⊥
 IsOfCommand Visits options seed count texts failure = OrNoFiles ((count ≡ 0) × (options.sums ≡ true)) (IsOfVisits options seed texts) failure
 IsOfCommand Sum options seed count texts failure = IsOfTotal options seed texts failure
+IsOfCommand Similarity options seed count texts failure = IsOfPair options seed count texts failure
 
 -- .. or `eval` fails on an expression
 abbrev pub IsOfOperands : Command → OptionValues → (seed : ℕ) → Operands → (texts : Option (List (List ℕ))) → Failure → Type 0

@@ -1,10 +1,13 @@
 pub mod Texts
+pub mod Showing
 pub mod EvalSums
 pub mod Eval
 pub mod Visits
 pub mod Sums
 pub mod Ranked
 pub mod Groups
+pub mod Combined
+pub mod Similarity
 pub mod Answers
 pub mod Operands
 pub mod Failing

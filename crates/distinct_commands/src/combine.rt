@@ -8,11 +8,13 @@ ghost use Rattle.keys_sketches.specs.Shards.{AreRead};
 ghost use Rattle.distinct_arguments.specs.Faults.{options_of};
 ghost use Rattle.distinct_arguments.specs.Settings.{OptionValues};
 ghost use Rattle.distinct_arguments.specs.declared.commands.Operator.{Operator};
-ghost use Rattle.distinct_commands.specs.Answers.{intersection_of, difference_of, IsCombinedOf, IsExpected, IsUnionOf};
+ghost use Rattle.distinct_commands.specs.Answers.{IsCombinedOf, IsExpected, IsUnionOf};
+ghost use Rattle.distinct_commands.specs.Combined.{intersection_of, difference_of};
 ghost use Rattle.distinct_inputs.specs.Images.{remaining_images, HasNoSketch, ReadsNext};
 ghost use Rattle.distinct_inputs.specs.Failures.{chosen_summary, images_in, unites_sums, AreCounted, IsOfImages, IsOfCombining};
-ghost use Rattle.distinct_inputs.specs.Failures.{IsOfEitherUnion, IsOfUniting};
-ghost use Rattle.distinct_messages.specs.Failures.{UnreadableIf};
+ghost use Rattle.distinct_inputs.specs.Failures.{IsOfEitherUnion, IsOfUniting, NotesNextFile};
+ghost use Rattle.distinct_commands.specs.Showing.{NamesFile, PassesNext};
+ghost use Rattle.distinct_messages.specs.Failures.{display_name, UnreadableIf};
 ghost use Rattle.distinct_inputs.specs.Failures.{ReportsNoSketch, ReportsPastUnion};
 ghost use Rattle.distinct_arguments.specs.declared.commands.Operator.TheVariants.{Union};
 ghost use Rattle.distinct_inputs.specs.Seeds.{AreSeeded};
@@ -57,7 +59,7 @@ pub fn image_failure<S: Sources>(
 }
 
 /// The sketch of the next image, of this seed, or `None` at the end. It fails if memory is refused, a file can't be
-/// read, or the bytes aren't an image.
+/// read, or the bytes aren't an image; the next image is then that behind these bytes, or that of the next file.
 pub fn next_sketch<S: Sources>(
     alloc: Global,
     seed: u64,
@@ -69,6 +71,11 @@ pub fn next_sketch<S: Sources>(
         (remaining_images S.Source.remaining S.texts images.old)
         (remaining_images S.Source.remaining S.texts images.new)) }
     ensures failed { IfErr result (IsOfImages false hex seed (remaining_images S.Source.remaining S.texts images.old)) }
+    ensures passes { IfErr result (PassesNext seed
+        (remaining_images S.Source.remaining S.texts images.old)
+        (remaining_images S.Source.remaining S.texts images.new)) }
+    ensures advances { NotesNextFile images.old images.new }
+    ensures names { hex ≡ false → IfErr result (NamesFile (display_name images.new.inputs.current.now)) }
     ensures fallible { IfErr result (UnreadableIf S.may_fail) }
 {
     match images.next_image() {
@@ -77,7 +84,11 @@ pub fn next_sketch<S: Sources>(
             Err(error) => Err(image_failure(images, false, hex, error)),
         },
         Ok(None) => Ok(None),
-        Err(error) => Err(images.read_failure(error)),
+        Err(error) => {
+            let failure = images.read_failure(error);
+            images.leave();
+            Err(failure)
+        }
     }
 }
 
@@ -102,7 +113,7 @@ fn check_count(expected: Option<u64>, found: u64) -> Result<(), Failure>
 }
 
 /// The sketches of a list that has just two.
-fn two_of(sketches: &[CompactThetaSketch]) -> Option<(&CompactThetaSketch, &CompactThetaSketch)>
+pub fn two_of(sketches: &[CompactThetaSketch]) -> Option<(&CompactThetaSketch, &CompactThetaSketch)>
     ensures some { IfSome result (λ pair. sketches.now ≡ pair.0.now ∷ pair.1.now ∷ []) }
     ensures none { IfNone result (length sketches.now ≢ 2) }
 {

@@ -1,12 +1,13 @@
 //! What each command writes, over any sources and any writer.
-ghost use Rattle.std.specs.Prelude.{◌≡◌, ◌≢◌, ℕ, OnOk, IfOk, IfErr, IfSome, length};
-ghost use Rattle.distinct_arguments.specs.declared.commands.Command.TheVariants.{Eval};
+ghost use Rattle.std.specs.Prelude.{◌≡◌, ◌≢◌, ℕ, [], OnOk, IfOk, IfErr, IfSome, length};
+ghost use Rattle.distinct_arguments.specs.declared.commands.Command.TheVariants.{Eval, Show};
 ghost use Rattle.sketch_base.specs.Seed.{seed_hash};
 ghost use Rattle.theta_sketches.specs.Image.{written};
 ghost use Rattle.distinct_arguments.specs.Faults.{options_of, request_action};
 ghost use Rattle.distinct_arguments.specs.Settings.{chosen_group};
 ghost use Rattle.distinct_commands.specs.Answers.{sketch_of, lines_text, IsCountText, IsLinesText, IsSketchText};
-ghost use Rattle.distinct_commands.specs.Answers.{IsCommandAnswer, WritesAnswer, Performs};
+ghost use Rattle.distinct_commands.specs.Answers.{IsCommandAnswer, IsWholeAnswer, WritesAnswer, Performs};
+ghost use Rattle.distinct_commands.specs.Showing.{AreOfOne};
 ghost use Rattle.distinct_inputs.specs.Lists.{names_of};
 ghost use Rattle.distinct_inputs.specs.Images.{in_form};
 ghost use Rattle.distinct_commands.specs.Failing.{IsOfCommand, IsOfCount, IsOfOperands, IsOfAnswer, IsOfRequest};
@@ -17,7 +18,7 @@ ghost use Rattle.distinct_messages.specs.declared.failure.Failure.TheVariants as
 
 use crate::expression::Operands;
 use crate::groups::GroupPrinter;
-use crate::job::Job;
+use crate::job::{Answer, Job};
 use crate::show::count_text;
 use crate::sums::chosen_amount;
 use crate::united::unites_groups;
@@ -34,20 +35,22 @@ use theta_sketches::CompactThetaSketch;
 const STANDARD_OUTPUT: &str = "standard output";
 
 /// Runs a command under a seed on what it is given, of which `sources` opens the files, and writes its whole answer
-/// and nothing else. Only if the writer fails may a part of the answer have been written.
+/// and nothing else. Only if the writer fails may a part of the answer have been written. It returns the failures of the
+/// files that it passed over, in their order: `show` passes over what is no image and a file that can't be read, any
+/// other command nothing.
 ///
 /// Any command may fail with `Memory`, with `Unreadable` if its sources may fail, and with `NotWritten` for standard
 /// output. Each other failure has its commands:
 ///
-/// - `NoSketch`, `NoSums`, `NoHex` and `NoLine`: commands that read images; `NoSums` if these are of sums, `NoSketch`
+/// - `NoSketch`, `NoSums`, `NoHex` and `NoLine`: commands that read images, but not `show`; `NoSums` if these are of sums, `NoSketch`
 ///   if not, `NoHex` and `NoLine` with `--hex`. If contracts know the files' bytes, only if some image is none of the
 ///   seed: a line that isn't hexadecimal, a file without a line, and an image that something follows count as none;
 /// - `NoTab`, `NoHex` and `NoSketch` with `--groups`: for the first line of a file that has a flaw;
 /// - `NoFiles`: commands that read images, if no file is named;
 /// - `WrongCount`: commands that combine images, if `--expect` names another number than the failure reports to have
 ///   been found, which is, if contracts know the files' bytes, the number of the images;
-/// - `NotTwo`: `minus`. If contracts know the files' bytes, only if the named files aren't two (without `--hex`) or
-///   their images aren't two;
+/// - `NotTwo`: `minus` and `similarity`. If contracts know the files' bytes, only if the named files aren't two
+///   (without `--hex`) or their images aren't two;
 /// - `NotOneEach`: `eval`;
 /// - `PastResult`: `eval --sums`. If contracts know the files' bytes, only if sums are added and in some step of the
 ///   expression two operands of a union or an intersection have a key whose sums are 2^64 or more together;
@@ -63,17 +66,22 @@ pub fn answer<S: Sources + Drop, C: Console, O: Write>(
     sources: S,
     console: &mut C,
     writer: &mut O,
-) -> Result<(), Failure>
+) -> Result<Vec<Failure>, Failure>
     requires seeded { seed_hash seed ≢ 0 }
     requires suits { Suits command operands }
     ensures answered { IfSome (S.texts sources) (λ texts.
-        OnOk result (WritesAnswer command (options_of options.now) seed (words_in operands.entry) texts (O.contents writer.old) (O.contents writer.new))) }
+        IfOk result (λ v. WritesAnswer command (options_of options.now) seed (words_in operands.entry) texts v.items
+        (O.contents writer.old) (O.contents writer.new))) }
+    ensures passed { IfOk result (λ v. AreOfOne S.may_fail v.items) }
     ensures failed { IfErr result (IsOfAnswer command (options_of options.now) seed operands.entry (S.texts sources)) }
     ensures fallible { IfErr result (UnreadableIf S.may_fail) }
     ensures unwritten { IfErr result (IsUnwritten (O.contents writer.old) (O.contents writer.new)) }
 {
-    let bytes = answer_of(alloc, command, options, seed, operands, sources, console)?;
-    put(alloc, writer, STANDARD_OUTPUT, bytes.as_slice())
+    let made = answer_of(alloc, command, options, seed, operands, sources, console)?;
+    match put(alloc, writer, STANDARD_OUTPUT, made.bytes.as_slice()) {
+        Ok(()) => Ok(made.passed),
+        Err(failure) => Err(failure),
+    }
 }
 
 /// Does what a request says: prints its text, or runs its command under this seed on what it is given, of which
@@ -87,17 +95,24 @@ pub fn perform<S: Sources + Drop, C: Console, O: Write>(
     sources: S,
     console: &mut C,
     writer: &mut O,
-) -> Result<(), Failure>
+) -> Result<Vec<Failure>, Failure>
     requires seeded { seed_hash seed ≢ 0 }
     requires suits { SuitsAction (request_action request) operands }
     ensures performed { IfSome (S.texts sources) (λ texts.
-        OnOk result (Performs (request_action request.entry) seed (words_in operands.entry) texts (O.contents writer.old) (O.contents writer.new))) }
+        IfOk result (λ v. Performs (request_action request.entry) seed (words_in operands.entry) texts v.items
+        (O.contents writer.old) (O.contents writer.new))) }
+    ensures passed { IfOk result (λ v. AreOfOne S.may_fail v.items) }
     ensures failed { IfErr result (IsOfRequest (request_action request.entry) seed operands.entry (S.texts sources)) }
     ensures unwritten { IfErr result (IsUnwritten (O.contents writer.old) (O.contents writer.new)) }
     ensures fallible { IfErr result (UnreadableIf S.may_fail) }
 {
     match request {
-        Request::Print(topic) => put(alloc, writer, STANDARD_OUTPUT, text_of(topic).as_bytes()),
+        Request::Print(topic) => {
+            match put(alloc, writer, STANDARD_OUTPUT, text_of(topic).as_bytes()) {
+                Ok(()) => Ok(Vec::new(alloc)),
+                Err(failure) => Err(failure),
+            }
+        }
         Request::Run(command, options, _) => {
             answer(
                 alloc, command, &options, seed, operands, sources, console, writer,
@@ -106,7 +121,7 @@ pub fn perform<S: Sources + Drop, C: Console, O: Write>(
     }
 }
 
-/// The bytes that a command writes of what it is given.
+/// What a command writes of what it is given, and passes over.
 fn answer_of<S: Sources + Drop, C: Console>(
     alloc: Global,
     command: Command,
@@ -115,11 +130,13 @@ fn answer_of<S: Sources + Drop, C: Console>(
     operands: Operands<'_>,
     sources: S,
     console: &mut C,
-) -> Result<Vec<u8>, Failure>
+) -> Result<Answer, Failure>
     requires seeded { seed_hash seed ≢ 0 }
     requires suits { Suits command operands }
     ensures answer { IfSome (S.texts sources) (λ texts.
-        IfOk result (λ v. IsCommandAnswer command (options_of options.now) seed (words_in operands.entry) texts v.items)) }
+        IfOk result (λ a. IsCommandAnswer command (options_of options.now) seed (words_in operands.entry) texts
+        a.bytes.items a.passed.items)) }
+    ensures passed { IfOk result (λ a. AreOfOne S.may_fail a.passed.items) }
     ensures failed { IfErr result
         (IsOfOperands command (options_of options.now) seed operands.entry (S.texts sources)) }
     ensures fallible { IfErr result (UnreadableIf S.may_fail) }
@@ -143,8 +160,22 @@ fn answer_of<S: Sources + Drop, C: Console>(
                 seed,
                 inputs,
             };
-            job.evaluate(expression, console)
+            match job.evaluate(expression, console) {
+                Ok(bytes) => Ok(whole(alloc, bytes)),
+                Err(failure) => Err(failure),
+            }
         }
+    }
+}
+
+/// An answer of a command that passes over no file.
+fn whole(alloc: Global, bytes: Vec<u8>) -> Answer
+    ensures bytes { result.bytes ≡ bytes }
+    ensures passed { result.passed.items ≡ [] }
+{
+    Answer {
+        bytes,
+        passed: Vec::new(alloc),
     }
 }
 
@@ -166,8 +197,42 @@ fn lines_text(
 }
 
 impl<'a, S: Sources + Drop> Job<'a, S> {
-    /// The bytes that a command, not `eval`, writes of the files of these names, which are those of the sources.
+    /// What a command, not `eval`, writes of the files of these names, which are those of the sources, and passes over.
     fn answer<C: Console>(
+        self,
+        command: Command,
+        files: &[String],
+        console: &mut C,
+    ) -> Result<Answer, Failure>
+        requires seeded { seed_hash self.seed ≢ 0 }
+        requires other { command ≢ Eval }
+        requires named { self.inputs.left.now ≡ files.now }
+        ensures answer { IfSome (S.texts self.entry.inputs.sources) (λ texts. IfOk result (λ a.
+            IsCommandAnswer command (options_of self.entry.options.now) self.entry.seed (names_of files.now) texts
+            a.bytes.items a.passed.items)) }
+        ensures passed { IfOk result (λ a. AreOfOne S.may_fail a.passed.items) }
+        ensures failed { IfErr result (
+            IsOfCommand command (options_of self.entry.options.now) self.entry.seed (length files.now)
+            (S.texts self.entry.inputs.sources)) }
+        ensures fallible { IfErr result (UnreadableIf S.may_fail) }
+    {
+        let alloc = self.alloc;
+        match command {
+            Command::Show => {
+                if files.is_empty() {
+                    return Err(Failure::NoFiles);
+                }
+                self.show_inputs(files)
+            }
+            _ => match self.whole_answer(command, files, console) {
+                Ok(bytes) => Ok(whole(alloc, bytes)),
+                Err(failure) => Err(failure),
+            },
+        }
+    }
+
+    /// The bytes that a command, not `eval` and not `show`, writes of the files of these names.
+    fn whole_answer<C: Console>(
         self,
         command: Command,
         files: &[String],
@@ -175,8 +240,9 @@ impl<'a, S: Sources + Drop> Job<'a, S> {
     ) -> Result<Vec<u8>, Failure>
         requires seeded { seed_hash self.seed ≢ 0 }
         requires other { command ≢ Eval }
+        requires whole { command ≢ Show }
         ensures answer { IfSome (S.texts self.entry.inputs.sources) (λ texts. IfOk result (λ v.
-            IsCommandAnswer command (options_of self.entry.options.now) self.entry.seed (names_of files.now) texts v.items)) }
+            IsWholeAnswer command (options_of self.entry.options.now) self.entry.seed (names_of files.now) texts v.items)) }
         ensures failed { IfErr result (
             IsOfCommand command (options_of self.entry.options.now) self.entry.seed (length files.now)
             (S.texts self.entry.inputs.sources)) }
@@ -196,12 +262,7 @@ impl<'a, S: Sources + Drop> Job<'a, S> {
                 let combined = self.combine_inputs(files.len(), operator, console)?;
                 in_form(alloc, options.hex, combined)
             }
-            Command::Show => {
-                if files.is_empty() {
-                    return Err(Failure::NoFiles);
-                }
-                self.show_inputs(files)
-            }
+            Command::Show => Err(Failure::NoFiles),
             Command::Eval => Err(Failure::Arguments(Fault::NotOneExpression)),
             Command::Visits => {
                 if options.sums && files.is_empty() {
@@ -210,6 +271,7 @@ impl<'a, S: Sources + Drop> Job<'a, S> {
                 self.visit_inputs(console)
             }
             Command::Sum => self.sum_inputs(),
+            Command::Similarity => self.compare_inputs(files.len()),
         }
     }
 

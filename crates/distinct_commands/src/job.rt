@@ -2,8 +2,16 @@
 
 use distinct_arguments::Options;
 use distinct_inputs::Inputs;
+use distinct_messages::Failure;
 use keys_sketches::Sources;
 use std::alloc::Global;
+
+/// What a command writes, and the failures of the files that it passes over.
+#[derive(Debug, Drop)]
+pub struct Answer {
+    pub bytes: Vec<u8>,
+    pub passed: Vec<Failure>,
+}
 
 /// The options of a command, the seed of its hashes, and the sources that it reads.
 #[derive(Drop)]

@@ -21,6 +21,7 @@ mod groups;
 mod job;
 mod ranked;
 mod show;
+mod similarity;
 mod sums;
 mod united;
 mod visits;

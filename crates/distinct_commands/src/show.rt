@@ -1,15 +1,18 @@
 //! What `count` and `show` print of sketches.
-ghost use Rattle.std.specs.Prelude.{◌≡◌, ◌++◌, false, None, Some, IfOk, IfErr, IfSome, OnOk, string_bytes};
+ghost use Rattle.std.specs.List.{list_all};
+ghost use Rattle.std.specs.Prelude.{◌≡◌, true, false, None, Some, IfOk, IfErr, IfSome, OnOk, string_bytes};
 ghost use Rattle.distinct_arguments.specs.Faults.{options_of};
-ghost use Rattle.distinct_commands.specs.Answers.{AreShownByName, AreShown, IsShownOf};
+ghost use Rattle.distinct_commands.specs.Showing.{AreShownByName, AreShown, IsShownOf, AreOfOne, EndsShow};
+ghost use Rattle.distinct_commands.specs.Showing.{SeesNext, IfPassed, IsAppended, NamesFile};
 ghost use Rattle.distinct_inputs.specs.Lists.{names_of};
-ghost use Rattle.distinct_messages.specs.Failures.{display_name, UnreadableIf};
-ghost use Rattle.distinct_inputs.specs.Failures.{images_in, IsOfImages};
+ghost use Rattle.distinct_messages.specs.Failures.{display_name, is_fault, IsOfOne, UnreadableIf};
+ghost use Rattle.distinct_inputs.specs.Failures.{NotesNextFile};
+ghost use Rattle.distinct_messages.specs.declared.failure.Failure.TheVariants as failure;
 ghost use Rattle.distinct_inputs.specs.Images.{remaining_images};
 ghost use Rattle.distinct_commands.specs.Texts.{chosen_deviations, count_text, counted_line, shown_text, head_of};
 
 use crate::combine::next_sketch;
-use crate::job::Job;
+use crate::job::{Answer, Job};
 use distinct_arguments::{Form, Options};
 use distinct_inputs::Images;
 use distinct_messages::{Failure, display_name};
@@ -92,14 +95,78 @@ pub fn shown_text(
     }
 }
 
+/// What the next image is: a sketch, or bytes or a file to be passed over, for this reason.
+#[derive(Drop)]
+enum Seen {
+    Sketch(CompactThetaSketch),
+    Passed(Failure),
+}
+
+/// The next image, or `None` at the end. It fails if memory is refused, or if standard input can't be read.
+fn see_next<S: Sources>(
+    alloc: Global,
+    seed: u64,
+    hex: bool,
+    images: &mut Images<'_, S>,
+) -> Result<Option<Seen>, Failure>
+    ensures sees { IfOk result (SeesNext seed
+        (remaining_images S.Source.remaining S.texts images.old)
+        (remaining_images S.Source.remaining S.texts images.new)) }
+    ensures of_one { IfOk result (λ next. IfPassed next (λ f. IsOfOne f × UnreadableIf S.may_fail f)) }
+    ensures advances { NotesNextFile images.old images.new }
+    ensures names { hex ≡ false →
+        IfOk result (λ next. IfPassed next (NamesFile (display_name images.new.inputs.current.now))) }
+    ensures ends { IfErr result EndsShow }
+    ensures fallible { IfErr result (UnreadableIf S.may_fail) }
+{
+    match next_sketch(alloc, seed, hex, images) {
+        Ok(Some(sketch)) => Ok(Some(Seen::Sketch(sketch))),
+        Ok(None) => Ok(None),
+        Err(failure) => {
+            if failure.is_of_one() {
+                Ok(Some(Seen::Passed(failure)))
+            } else {
+                Err(failure)
+            }
+        }
+    }
+}
+
+/// Appends what is shown of an image under this name, or the failure for which it is passed over.
+fn put_seen(
+    alloc: Global,
+    options: &Options<'_>,
+    name: &str,
+    seen: Seen,
+    answer: &mut Answer,
+) -> Result<(), Failure>
+    ensures appended { OnOk result (IsAppended (options_of options.now) name.now seen
+        answer.old.bytes.items answer.old.passed.items answer.new.bytes.items answer.new.passed.items) }
+    ensures memory { IfErr result (λ f. f ≡ failure.Memory) }
+{
+    match seen {
+        Seen::Sketch(sketch) => {
+            let text = shown_text(alloc, options, name, &sketch)?;
+            answer.bytes.extend_from_slice(text.as_bytes())?;
+            Ok(())
+        }
+        Seen::Passed(failure) => {
+            answer.passed.push(failure)?;
+            Ok(())
+        }
+    }
+}
+
 impl<'a, S: Sources + Drop> Job<'a, S> {
-    /// One line per image, after the head of a table if there is to be one.
-    pub fn show_inputs(self, files: &[String]) -> Result<Vec<u8>, Failure>
-        ensures shown { IfSome (S.texts self.entry.inputs.sources) (λ texts.
-            IfOk result (λ v. IsShownOf (options_of self.entry.options.now) self.entry.seed (names_of files.now) texts v.items)) }
-        ensures failed { IfErr result (
-            IsOfImages false self.entry.options.now.hex self.entry.seed
-            (images_in false (options_of self.entry.options.now) (S.texts self.entry.inputs.sources))) }
+    /// One line per image, after the head of a table if there is to be one. What is no image, and a file that can't be
+    /// read, is passed over.
+    pub fn show_inputs(self, files: &[String]) -> Result<Answer, Failure>
+        requires named { self.inputs.left.now ≡ files.now }
+        ensures shown { IfSome (S.texts self.entry.inputs.sources) (λ texts. IfOk result (λ a.
+            IsShownOf (options_of self.entry.options.now) self.entry.seed (names_of files.now) texts
+            a.bytes.items a.passed.items)) }
+        ensures of_one { IfOk result (λ a. AreOfOne S.may_fail a.passed.items) }
+        ensures ends { IfErr result EndsShow }
         ensures fallible { IfErr result (UnreadableIf S.may_fail) }
     {
         let (alloc, options, seed) = (self.alloc, self.options, self.seed);
@@ -110,9 +177,12 @@ impl<'a, S: Sources + Drop> Job<'a, S> {
         } else {
             show_files(alloc, options, seed, files, &mut images)?
         };
-        let mut shown = head.into_bytes();
-        shown.extend_from_slice(lines.as_slice())?;
-        Ok(shown)
+        let mut bytes = head.into_bytes();
+        bytes.extend_from_slice(lines.bytes.as_slice())?;
+        Ok(Answer {
+            bytes,
+            passed: lines.passed,
+        })
     }
 }
 
@@ -122,20 +192,23 @@ fn show_lines<S: Sources>(
     options: &Options<'_>,
     seed: u64,
     images: &mut Images<'_, S>,
-) -> Result<Vec<u8>, Failure>
-    ensures shown { IfSome (remaining_images S.Source.remaining S.texts images.old) (λ all.
-        IfOk result (λ v. AreShown (options_of options.now) seed all v.items)) }
-    ensures failed { IfErr result
-        (IsOfImages false options.now.hex seed (remaining_images S.Source.remaining S.texts images.old)) }
+) -> Result<Answer, Failure>
+    ensures shown { IfSome (remaining_images S.Source.remaining S.texts images.old) (λ all. IfOk result (λ a.
+        list_all is_fault a.passed.items ≡ true
+        → AreShown (options_of options.now) seed all a.bytes.items a.passed.items)) }
+    ensures of_one { IfOk result (λ a. AreOfOne S.may_fail a.passed.items) }
+    ensures ends { IfErr result EndsShow }
     ensures fallible { IfErr result (UnreadableIf S.may_fail) }
 {
-    let mut shown = Vec::new(alloc);
+    let mut answer = Answer {
+        bytes: Vec::new(alloc),
+        passed: Vec::new(alloc),
+    };
     for _ in 0..u64::MAX {
-        let Some(sketch) = next_sketch(alloc, seed, options.hex, images)? else {
-            return Ok(shown);
+        let Some(seen) = see_next(alloc, seed, options.hex, images)? else {
+            return Ok(answer);
         };
-        let text = shown_text(alloc, options, images.name(), &sketch)?;
-        shown.extend_from_slice(text.as_bytes())?;
+        put_seen(alloc, options, images.name(), seen, &mut answer)?;
     }
     Err(Failure::Memory)
 }
@@ -147,22 +220,34 @@ fn show_files<S: Sources>(
     seed: u64,
     files: &[String],
     images: &mut Images<'_, S>,
-) -> Result<Vec<u8>, Failure>
-    ensures shown { IfSome (remaining_images S.Source.remaining S.texts images.old) (λ all.
-        IfOk result (λ v. AreShownByName (options_of options.now) seed (names_of files.now) all v.items)) }
-    ensures failed { IfErr result
-        (IsOfImages false options.now.hex seed (remaining_images S.Source.remaining S.texts images.old)) }
+) -> Result<Answer, Failure>
+    requires whole { options.now.hex ≡ false }
+    requires images { images.now.hex ≡ false }
+    requires named { images.now.inputs.left.now ≡ files.now }
+    ensures shown { IfSome (remaining_images S.Source.remaining S.texts images.old) (λ all. IfOk result (λ a.
+        list_all is_fault a.passed.items ≡ true
+        → AreShownByName (options_of options.now) seed (names_of files.now) all a.bytes.items a.passed.items)) }
+    ensures of_one { IfOk result (λ a. AreOfOne S.may_fail a.passed.items) }
+    ensures ends { IfErr result EndsShow }
     ensures fallible { IfErr result (UnreadableIf S.may_fail) }
 {
-    let mut shown = Vec::new(alloc);
+    let mut answer = Answer {
+        bytes: Vec::new(alloc),
+        passed: Vec::new(alloc),
+    };
     let mut left = files;
     while let Some((file, others)) = left.split_first() {
-        let Some(sketch) = next_sketch(alloc, seed, options.hex, images)? else {
-            return Ok(shown);
+        let Some(seen) = see_next(alloc, seed, options.hex, images)? else {
+            return Ok(answer);
         };
-        let text = shown_text(alloc, options, display_name(file.as_str()), &sketch)?;
-        shown.extend_from_slice(text.as_bytes())?;
+        put_seen(
+            alloc,
+            options,
+            display_name(file.as_str()),
+            seen,
+            &mut answer,
+        )?;
         left = others;
     }
-    Ok(shown)
+    Ok(answer)
 }

@@ -46,6 +46,11 @@ abbrev pub NotesNext : {A : Type 0} → (current : List ℕ) → (left : List (S
 NotesNext current [] new_current new_left = (new_current ≡ current) × (new_left ≡ [])
 NotesNext current (name ∷ names) new_current new_left = (new_current ≡ string_bytes name) × (new_left ≡ names)
 
+-- .. if a file is one image
+abbrev pub NotesNextFile : {S R : Type 0} → (old new : Images S R) → Type 0
+NotesNextFile old new =
+    old.hex ≡ false → (new.hex ≡ false) × NotesNext old.inputs.current.now old.inputs.left.now new.inputs.current.now new.inputs.left.now
+
 -- memory was refused, or the file of this name can't be read, for this reason
 abbrev pub ReportsUnreadable : (name : List ℕ) → Error → Failure → Type 0
 ReportsUnreadable name error Memory = ⊤

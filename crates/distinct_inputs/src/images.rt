@@ -8,7 +8,7 @@ ghost use Rattle.distinct_inputs.specs.Images.{remaining_images, remaining_parts
 ghost use Rattle.distinct_inputs.specs.Images.{length_of, count_of, line_image};
 ghost use Rattle.distinct_inputs.specs.Images.{CountsLine, HasNoSketch, IsOnlyImage, GivesOrCloses, IsSameReader};
 ghost use Rattle.distinct_messages.specs.Failures.{display_name, UnreadableIf};
-ghost use Rattle.distinct_inputs.specs.Failures.{IsOfImages, IsOfReading, NotesNext, ReportsUnreadable};
+ghost use Rattle.distinct_inputs.specs.Failures.{IsOfImages, IsOfReading, NotesNext, NotesNextFile, ReportsUnreadable};
 ghost use Rattle.distinct_inputs.specs.Failures.{ReportsNoSketch, ReportsPastUnion};
 
 use crate::inputs::Inputs;
@@ -237,11 +237,20 @@ impl<'a, S: Sources> Images<'a, S> {
             (remaining_images S.Source.remaining S.texts self.new)) }
         ensures only_image { IfOk result (λ image. IfSome image (λ v. IsOnlyImage self.old.sums v.items)) }
         ensures noted { IfOk result (λ image. IfSome image (λ v. count_of self.old.sums v.items ≤ self.new.most)) }
+        ensures named { NotesNextFile self.old self.new }
     {
         match self.next_part()? {
             Some(part) => Ok(Some(only_image(self.alloc, self.sums, part))),
             None => Ok(None),
         }
+    }
+
+    /// Leaves the open file, which can't be read further: the next image is in the next file.
+    pub fn leave(&mut self)
+        ensures inputs { self.new.inputs ≡ self.old.inputs }
+        ensures hex { self.new.hex ≡ self.old.hex }
+    {
+        self.open = None;
     }
 
     /// What the next file, or the next line, has in place of an image.
@@ -251,6 +260,7 @@ impl<'a, S: Sources> Images<'a, S> {
             (remaining_parts S.Source.remaining S.texts self.new)) }
         ensures sums { OnOk result (self.new.sums ≡ self.old.sums) }
         ensures noted { IfOk result (λ image. IfSome image (λ v. count_of self.old.sums v.items ≤ self.new.most)) }
+        ensures named { NotesNextFile self.old self.new }
     {
         if self.hex {
             self.next_line()

@@ -1,14 +1,14 @@
 -- Failures, their statuses and the names in their messages.
-use Rattle.std.specs.Prelude.{ℕ, ◌≡◌, ⊤, Bool, true, List, codes, string_bytes, if◌then◌else◌}
+use Rattle.std.specs.Prelude.{ℕ, ◌≡◌, ⊤, Bool, true, false, List, [], ◌∷◌, codes, string_bytes, if◌then◌else◌}
 use Rattle.std.specs.Str.{bytes_eq}
 use Rattle.std.specs.declared.io.Error.{Error}
 use Rattle.std.specs.IoError.{error_kind}
-use Rattle.std.specs.declared.io.ErrorKind.TheVariants.{BrokenPipe}
+use Rattle.std.specs.declared.io.ErrorKind.TheVariants.{BrokenPipe, OutOfMemory}
 use Rattle.distinct_arguments.specs.Faults.{fault_status}
 use Rattle.distinct_messages.specs.declared.failure.Failure.{Failure}
 use Rattle.distinct_messages.specs.declared.failure.Failure.TheVariants.{NotText, Arguments, NoFiles, NotTwo}
 use Rattle.distinct_messages.specs.declared.failure.Failure.TheVariants.{NoExpression, Terminal, Memory, Unreadable}
-use Rattle.distinct_messages.specs.declared.failure.Failure.TheVariants.{NotWritten}
+use Rattle.distinct_messages.specs.declared.failure.Failure.TheVariants.{NoSketch, NoHex, NoLine, NotWritten}
 
 -- the exit status: 2 if the arguments are wrong, else 1
 abbrev pub failure_status : Failure → ℕ
@@ -19,6 +19,24 @@ failure_status NotTwo = 2
 failure_status (NoExpression text fault) = 2
 failure_status Terminal = 2
 failure_status _ = 1
+
+-- the exit status if the answer was written: 1 if files were passed over with these failures, else 0
+abbrev pub passed_status : List Failure → ℕ
+passed_status [] = 0
+passed_status (failure ∷ failures) = 1
+
+-- whether what was read of a file, or of a line, is no image
+abbrev pub is_fault : Failure → Bool
+is_fault (NoSketch name line flaw) = true
+is_fault (NoHex name line) = true
+is_fault (NoLine name) = true
+is_fault _ = false
+
+-- One file or line is at fault, and the others can still be read: it is no image, or a file can't be read. If it is standard input
+-- that can't be read, or if memory was refused, the others can't be read either.
+abbrev pub IsOfOne : Failure → Type 0
+IsOfOne (Unreadable name error) = (string_bytes name ≡ codes "standard input" → ⊥) × (error_kind error ≡ OutOfMemory → ⊥)
+IsOfOne failure = is_fault failure ≡ true
 
 -- standard output failed because its reader closed it
 abbrev pub IsClosedOutput : Failure → Type 0

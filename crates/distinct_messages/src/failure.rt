@@ -2,7 +2,7 @@
 ghost use Rattle.std.specs.Prelude.{◌≡◌, true, false};
 ghost use Rattle.sketch_base.specs.declared.error.ErrorKind.TheVariants.{OutOfMemory};
 ghost use Rattle.distinct_arguments.specs.declared.fault.Fault.{Fault};
-ghost use Rattle.distinct_messages.specs.Failures.{failure_status, display_name, IsClosedOutput};
+ghost use Rattle.distinct_messages.specs.Failures.{failure_status, passed_status, display_name, IsClosedOutput, IsOfOne};
 ghost use Rattle.distinct_messages.specs.declared.failure.Failure.TheVariants as failure;
 
 use distinct_arguments::{Escaped, Fault};
@@ -22,7 +22,7 @@ pub enum Failure {
     Arguments(Fault),
     /// The command needs images, and none is given.
     NoFiles,
-    /// `minus` needs two images.
+    /// `minus` or `similarity` needs two images, and another number is given.
     NotTwo,
     /// This text is not an expression, for this reason.
     NoExpression(String, SyntaxFault),
@@ -85,6 +85,23 @@ impl Failure {
         }
     }
 
+    /// Whether one file or line is at fault, and the others can still be read. If standard input can't be read, or if
+    /// memory was refused, they can't.
+    pub fn is_of_one(&self) -> bool
+        ensures one { result ≡ true → IsOfOne self.now }
+        ensures other { result ≡ false → IsOfOne self.now → ⊥ }
+    {
+        match self {
+            Failure::Unreadable(name, error) => {
+                !(name.as_str() == STANDARD_INPUT || error.kind() == io::ErrorKind::OutOfMemory)
+            }
+            Failure::NoSketch(_, _, _) => true,
+            Failure::NoHex(_, _) => true,
+            Failure::NoLine(_) => true,
+            _ => false,
+        }
+    }
+
     /// The exit status: 2 if the arguments are wrong, else 1.
     pub fn status(&self) -> u8
         ensures { result ≡ failure_status self.now }
@@ -99,6 +116,13 @@ impl Failure {
             _ => 1,
         }
     }
+}
+
+/// The exit status if the answer was written: 1 if files were passed over with these failures, else 0.
+pub fn passed_status(passed: &[Failure]) -> u8
+    ensures { result ≡ passed_status passed.now }
+{
+    if passed.is_empty() { 0 } else { 1 }
 }
 
 /// The failure for an error that means refused memory.
@@ -361,7 +385,7 @@ impl fmt::Display for Failure {
             ),
             Failure::Arguments(fault) => write!(f, "{fault}"),
             Failure::NoFiles => write!(f, "no image given"),
-            Failure::NotTwo => write!(f, "minus takes two images (try distinct minus --help)"),
+            Failure::NotTwo => write!(f, "not two images given"),
             Failure::NoExpression(text, fault) => write!(
                 f,
                 "eval: '{}': {}",

@@ -8,12 +8,14 @@ ghost use Rattle.distinct_arguments.specs.Faults.{options_of, request_action};
 ghost use Rattle.distinct_arguments.specs.Settings.{chosen_group, chosen_value};
 ghost use Rattle.distinct_inputs.specs.Failures.{chosen_amount};
 ghost use Rattle.distinct_inputs.specs.Lists.{names_of, texts_of};
-ghost use Rattle.distinct_commands.specs.Answers.{sketch_of, IsIntersectionImage, IsDifferenceImage, IsShownOf};
+ghost use Rattle.distinct_commands.specs.Answers.{sketch_of, IsIntersectionImage, IsDifferenceImage};
+ghost use Rattle.distinct_commands.specs.Showing.{IsShownOf};
 ghost use Rattle.distinct_commands.specs.Answers.{IsCountText, IsSketchText, IsCommandAnswer, IsCombinedText};
 ghost use Rattle.distinct_commands.specs.Answers.{Performs};
 ghost use Rattle.distinct_commands.specs.Eval.{IsEvaluatedOf};
 ghost use Rattle.distinct_commands.specs.Operands.{words_for, words_in, Suits, SuitsAction};
 ghost use Rattle.distinct_inputs.specs.Images.{images_of, in_form};
+ghost use Rattle.distinct_commands.specs.Similarity.{IsComparedOf};
 ghost use Rattle.distinct_commands.specs.Sums.{IsTotalText};
 ghost use Rattle.distinct_commands.specs.Visits.{IsVisitsText};
 
@@ -44,7 +46,8 @@ impl Console for Quiet {
     fn remark(&mut self, _remark: Remark<'_>) {}
 }
 
-/// What a command writes under a seed of texts in memory, as the files of what it is given.
+/// What a command writes under a seed of texts in memory, as the files of what it is given, and the failures
+/// of those that it passes over.
 fn answered(
     alloc: Global,
     command: Command,
@@ -52,16 +55,16 @@ fn answered(
     seed: u64,
     operands: Operands<'_>,
     texts: &[Vec<u8>],
-) -> Result<Vec<u8>, Failure>
+) -> Result<(Vec<u8>, Vec<Failure>), Failure>
     requires seeded { seed_hash seed ≢ 0 }
     requires suits { Suits command operands }
     ensures written { IfOk result (λ v.
         IsCommandAnswer command (options_of options.now) seed (words_in operands.entry) (texts_of texts.now)
-        v.items) }
+        v.0.items v.1.items) }
 {
     let mut bytes = Vec::new(alloc);
     let mut console = Quiet {};
-    answer(
+    let passed = answer(
         alloc,
         command,
         options,
@@ -71,7 +74,7 @@ fn answered(
         &mut console,
         &mut bytes,
     )?;
-    Ok(bytes)
+    Ok((bytes, passed))
 }
 
 /// What `count` writes of texts, or of groups of images.
@@ -86,14 +89,15 @@ fn count_of(
     ensures counted { IfOk result (λ v.
         IsCountText options.now.groups (options_of options.now) seed (texts_of texts.now) v.items) }
 {
-    answered(
+    let written = answered(
         alloc,
         Command::Count,
         options,
         seed,
         Operands::Files(names),
         texts,
-    )
+    )?;
+    Ok(written.0)
 }
 
 /// What `sketch` writes of texts.
@@ -109,14 +113,15 @@ fn sketch_of(
         IsSketchText (chosen_amount (options_of options.now)) (chosen_group (options_of options.now))
         (options_of options.now) seed (texts_of texts.now) v.items) }
 {
-    answered(
+    let written = answered(
         alloc,
         Command::Sketch,
         options,
         seed,
         Operands::Files(names),
         texts,
-    )
+    )?;
+    Ok(written.0)
 }
 
 /// What `union` writes of files of images, by groups or not.
@@ -132,7 +137,8 @@ fn union_of(
         IsCombinedText options.now.groups Union (options_of options.now) seed (texts_of texts.now) v.items) }
 {
     let union = Command::Combine(Operator::Union);
-    answered(alloc, union, options, seed, Operands::Files(names), texts)
+    let written = answered(alloc, union, options, seed, Operands::Files(names), texts)?;
+    Ok(written.0)
 }
 
 /// What `meet` writes of files of images.
@@ -149,7 +155,8 @@ fn meet_of(
         × (v.items ≡ in_form options.now.hex image)) }
 {
     let meet = Command::Combine(Operator::Meet);
-    answered(alloc, meet, options, seed, Operands::Files(names), texts)
+    let written = answered(alloc, meet, options, seed, Operands::Files(names), texts)?;
+    Ok(written.0)
 }
 
 /// What `minus` writes of files of two images.
@@ -166,20 +173,22 @@ fn minus_of(
         × (v.items ≡ in_form options.now.hex image)) }
 {
     let minus = Command::Combine(Operator::Minus);
-    answered(alloc, minus, options, seed, Operands::Files(names), texts)
+    let written = answered(alloc, minus, options, seed, Operands::Files(names), texts)?;
+    Ok(written.0)
 }
 
-/// What `show` writes of files of images.
+/// What `show` writes of files of images, and the failures of those that it passes over.
 fn show_of(
     alloc: Global,
     options: &Options<'_>,
     seed: u64,
     names: &[String],
     texts: &[Vec<u8>],
-) -> Result<Vec<u8>, Failure>
+) -> Result<(Vec<u8>, Vec<Failure>), Failure>
     requires seeded { seed_hash seed ≢ 0 }
     ensures shown { IfOk result (λ v.
-        IsShownOf (options_of options.now) seed (names_of names.now) (texts_of texts.now) v.items) }
+        IsShownOf (options_of options.now) seed (names_of names.now) (texts_of texts.now)
+        v.0.items v.1.items) }
 {
     answered(
         alloc,
@@ -205,7 +214,8 @@ fn eval_of(
 {
     let expression = only_expression(alloc, names)?;
     let operands = Operands::Expression(&expression);
-    answered(alloc, Command::Eval, options, seed, operands, texts)
+    let written = answered(alloc, Command::Eval, options, seed, operands, texts)?;
+    Ok(written.0)
 }
 
 /// What `visits` writes of texts, or of files of images of sums.
@@ -220,14 +230,15 @@ fn visits_of(
     ensures visited { IfOk result (λ v.
         IsVisitsText options.now.sums (options_of options.now) seed (texts_of texts.now) v.items) }
 {
-    answered(
+    let written = answered(
         alloc,
         Command::Visits,
         options,
         seed,
         Operands::Files(names),
         texts,
-    )
+    )?;
+    Ok(written.0)
 }
 
 /// What `sum` writes of texts.
@@ -243,14 +254,38 @@ fn sum_of(
         IsTotalText (chosen_value (options_of options.now)) (options_of options.now) seed (texts_of texts.now)
         v.items) }
 {
-    answered(
+    let written = answered(
         alloc,
         Command::Sum,
         options,
         seed,
         Operands::Files(names),
         texts,
-    )
+    )?;
+    Ok(written.0)
+}
+
+/// What `similarity` writes of files of two images.
+fn similarity_of(
+    alloc: Global,
+    options: &Options<'_>,
+    seed: u64,
+    names: &[String],
+    texts: &[Vec<u8>],
+) -> Result<Vec<u8>, Failure>
+    requires seeded { seed_hash seed ≢ 0 }
+    ensures compared { IfOk result (λ v. IsComparedOf (options_of options.now) seed (texts_of texts.now) v.items) }
+{
+    let similarity = Command::Similarity;
+    let written = answered(
+        alloc,
+        similarity,
+        options,
+        seed,
+        Operands::Files(names),
+        texts,
+    )?;
+    Ok(written.0)
 }
 
 /// What a command writes, by its helper.
@@ -270,10 +305,11 @@ fn written_by(
         Command::Combine(Operator::Union) => union_of(alloc, options, seed, names, texts),
         Command::Combine(Operator::Meet) => meet_of(alloc, options, seed, names, texts),
         Command::Combine(Operator::Minus) => minus_of(alloc, options, seed, names, texts),
-        Command::Show => show_of(alloc, options, seed, names, texts),
+        Command::Show => Ok(show_of(alloc, options, seed, names, texts)?.0),
         Command::Eval => eval_of(alloc, options, seed, names, texts),
         Command::Visits => visits_of(alloc, options, seed, names, texts),
         Command::Sum => sum_of(alloc, options, seed, names, texts),
+        Command::Similarity => similarity_of(alloc, options, seed, names, texts),
     }
 }
 
@@ -299,16 +335,16 @@ fn request_written(
     seed: u64,
     operands: Operands<'_>,
     texts: &[Vec<u8>],
-) -> Result<Vec<u8>, Failure>
+) -> Result<(Vec<u8>, Vec<Failure>), Failure>
     requires seeded { seed_hash seed ≢ 0 }
     requires suits { SuitsAction (request_action request) operands }
     ensures { IfOk result (λ v.
-        Performs (request_action request.entry) seed (words_in operands.entry) (texts_of texts.now) (Some [])
-        (Some v.items)) }
+        Performs (request_action request.entry) seed (words_in operands.entry) (texts_of texts.now) v.1.items
+        (Some []) (Some v.0.items)) }
 {
     let mut bytes = Vec::new(alloc);
     let mut console = Quiet {};
-    perform(
+    let passed = perform(
         alloc,
         request,
         seed,
@@ -317,7 +353,7 @@ fn request_written(
         &mut console,
         &mut bytes,
     )?;
-    Ok(bytes)
+    Ok((bytes, passed))
 }
 
 /// What the program writes by these arguments of texts in memory, as the files that they name, under a seed.
@@ -326,10 +362,11 @@ fn performed(
     words: &[String],
     seed: u64,
     texts: &[Vec<u8>],
-) -> Result<Vec<u8>, Failure>
+) -> Result<(Vec<u8>, Vec<Failure>), Failure>
     requires seeded { seed_hash seed ≢ 0 }
     ensures { IfOk result (λ v.
-        Performs (action_of (names_of words.now)) seed (words_for (action_of (names_of words.now))) (texts_of texts.now) (Some []) (Some v.items)) }
+        Performs (action_of (names_of words.now)) seed (words_for (action_of (names_of words.now))) (texts_of texts.now)
+        v.1.items (Some []) (Some v.0.items)) }
 {
     let request = read_arguments(words)?;
     match request {
@@ -394,12 +431,13 @@ fn both_written(
         return Err(Failure::NoFiles);
     }
     let is_sums = command == Command::Visits || command == Command::Sum;
+    let compares = command == Command::Similarity;
     let has_lines = command == Command::Count || command == Command::Sketch || is_sums;
     let reads_lines = options.keys || has_lines && !options.sums;
     let prints = command == Command::Count || command == Command::Show || command == Command::Eval;
-    let is_image = !options.hex && !is_sums && (!prints || options.output.is_some());
+    let is_image = !options.hex && !is_sums && !compares && (!prints || options.output.is_some());
     let files = two_texts(alloc, !options.hex && !reads_lines, texts)?;
-    let written = performed(alloc, words.as_slice(), seed, files.as_slice())?;
+    let written = performed(alloc, words.as_slice(), seed, files.as_slice())?.0;
     let second = written_by_seed(alloc, command, &options, seed, names, files.as_slice())?;
     Ok((
         in_digits(alloc, is_image, written)?,
@@ -514,6 +552,11 @@ fn writes_each_answer(rt: HostRuntime) -> Result<(), Fail> {
             &["show", "--hex", "--bounds=1", "a", "b"],
             ESTIMATING,
             "a: 6 estimated, from 3 to 9, retained 3, theta 5000000000000000000\nb: 5 estimated, from 2 to 8, retained 2, theta 4000000000000000000\n",
+        ),
+        (
+            &["similarity", "--bounds=1", "a", "b"],
+            ESTIMATING,
+            "0.333333 0.135643 0.614357\n",
         ),
         (
             &["eval", "--keys", "--lg-k=4", "a + b"],

@@ -6,7 +6,8 @@ use Rattle.core_compact.specs.CompactState.{Compact}
 use Rattle.theta_sketches.specs.Image.{written}
 use Rattle.distinct_arguments.specs.Faults.{options_of}
 use Rattle.distinct_arguments.specs.declared.commands.Operator.{Operator}
-use Rattle.distinct_commands.specs.Answers.{IsCombinedOf, IsIntersectionImage, IsExpected, intersection_of}
+use Rattle.distinct_commands.specs.Answers.{IsCombinedOf, IsIntersectionImage, IsExpected}
+use Rattle.distinct_commands.specs.Combined.{intersection_of}
 use Rattle.distinct_messages.specs.Failures.{UnreadableIf}
 use Rattle.distinct_inputs.specs.Failures.{unites_sums, AreCounted, IsOfCombining, IsOfImages}
 use Rattle.distinct_inputs.specs.Images.{images_of, remaining_images}

@@ -1,0 +1,2 @@
+pub mod Similarities
+pub mod Forms
