@@ -21,9 +21,9 @@ TOP = os.path.dirname(os.path.dirname(HERE))
 CASES = [
     ('murmur8', 10000000), ('bytes20', 10000000), ('bytes64', 10000000), ('update12', 10000000), ('hash12', 10000000),
     ('hash12', 4096), ('hash20', 10000000), ('repeat12', 10000000), ('hash12_many', 10000000), ('hash20_many', 10000000),
-    ('repeat12_many', 10000000), ('union', 1000), ('union_mut', 1000), ('union_same', 1000),
-    ('union_half', 1000), ('union_all', 1000), ('union_all', 100), ('union_all', 10), ('union_all_same', 1000),
-    ('union_all_half', 1000),
+    ('repeat12_many', 10000000), ('screened', 10000000), ('update_screened', 10000000), ('small', 1000000),
+    ('union', 1000), ('union_mut', 1000), ('union_same', 1000), ('union_half', 1000),
+    ('union_all', 1000), ('union_all', 100), ('union_all', 10), ('union_all_same', 1000), ('union_all_half', 1000),
     ('meet', 65536), ('meet_mut', 65536), ('minus', 65536), ('minus_mut', 65536), ('meet_chosen', 25000),
     ('meet_chosen', 100000), ('minus_chosen', 25000), ('minus_chosen', 100000), ('union_chosen', 25000),
     ('union_chosen', 100000), ('compact', 65536), ('serialize', 65536),

@@ -1,13 +1,13 @@
-//! Nanoseconds of processor time an item of the original crate, of this one, and of the proved crates without the border
-//! to C, in one run: `speed [ROUNDS] [WORD]`, of the rows whose names have the word.
+//! Nanoseconds of processor time an item of the original crate, of this one, and of the proved crates below the border to
+//! C, in one run: `speed [ROUNDS] [WORD]`, of the rows whose names have the word.
 //!
-//! checks/rust builds it, as bindings/rust/build/release/speed. The first twenty rows are cases that
-//! bench/plans/sketch_bench.rt.txt describes, on its input; behind them are small sketches and others. In each round the
-//! crates run in turns, and a row has the least of all rounds. If SKETCH_BENCH names the program that
-//! `BENCH_PLACE=DIR bench/plans/run.py` leaves at DIR/crates/sketch_bench/out/sketch_bench, it runs in turns with them:
-//! then the twenty rows have its time too, and what this crate takes more, the cost of the border, which is that of this
-//! crate's lines and of the calls of C. `same` says that the numbers of all answers are one. Give it a core of its own, as
-//! by `taskset -c 3`, on a quiet machine. docs/use/PERFORMANCE.md has a run.
+//! `bench/rust/run.py` builds and runs it with all three; checks/rust leaves it at bindings/rust/build/release/speed. The
+//! first twenty rows are cases that bench/plans/sketch_bench.rt.txt describes, on its input; behind them are small sketches
+//! and others. In each round the crates run in turns, and a row has the least of all rounds. If SKETCH_BENCH names the
+//! built program of bench/plans/sketch_bench.rt.txt, it runs in turns with them: then a row that this has as a case has
+//! its time too, and what this crate takes more, the cost of the border, which is that of this crate's lines and of the
+//! calls of C. `same` says that the numbers of all answers are one. Give it a core of its own, as by `taskset -c 3`, on a
+//! quiet machine. docs/use/PERFORMANCE.md has a run.
 
 use std::hint::black_box;
 use std::os::unix::process::CommandExt;
@@ -245,7 +245,7 @@ macro_rules! cases {
                 };
                 type Sums = DefaultUpdatePolicy<u64>;
                 match case {
-                    "murmur8" => (
+                    "update_screened" => (
                         n,
                         Box::new(move || {
                             let mut sketch = screening();
@@ -275,7 +275,7 @@ macro_rules! cases {
             /// Sketches of five keys, each built, updated, asked for its estimate and dropped.
             fn small(n: u64) -> Case {
                 let one = |first: u64| of_values(12, first..first + 5).estimate();
-                (n, Box::new(move || timed(|| (0..n).map(|it| one(5 * it)).sum::<f64>(), |it| Some(it.to_bits()))))
+                (n, Box::new(move || timed(|| (0..n).map(|it| one(5 * it)).sum::<f64>(), |it| Some(*it as u64))))
             }
 
             fn estimates(n: u64) -> Case {
@@ -315,59 +315,63 @@ cases!(of_ours, kaftanclay);
 
 const MANY: u64 = 10_000_000;
 
-/// The cases of the proved crates: a name, the case and its size.
-const PROVED: [(&str, &str, u64); 20] = [
-    ("distinct hashes, 2^12 (hash12)", "hash12", MANY),
-    ("the same, of 4096 hashes alone", "hash12", 4096),
-    ("4096 hashes again and again (repeat12)", "repeat12", MANY),
-    ("distinct hashes, 2^20 (hash20)", "hash20", MANY),
-    ("numbers, hashed (update12)", "update12", MANY),
-    ("the same, all screened (murmur8)", "murmur8", MANY),
-    ("union of 1000 compact forms", "union", 1000),
-    ("one form united with itself", "union_same", 1000),
-    ("union of sketches that take updates", "union_mut", 1000),
-    ("intersection of compact forms", "meet", 65536),
-    ("intersection of sketches", "meet_mut", 65536),
-    ("difference of compact forms", "minus", 65536),
-    ("difference of sketches", "minus_mut", 65536),
-    ("compact form, ordered", "compact", 65536),
-    ("writing", "serialize", 65536),
-    ("reading", "deserialize", 65536),
-    ("reading what was written", "round", 65536),
-    ("tuples, distinct (tuple12)", "tuple12", MANY),
-    ("tuples, summed (tuple_sum12)", "tuple_sum12", MANY),
-    ("union of 1000 compact tuples", "tuple_union", 1000),
-];
+/// A row: its name, the case and its size, and the case of the proved crates, if they have it.
+type Row = (&'static str, &'static str, u64, Option<&'static str>);
 
-/// Cases of the crates alone.
-const OTHERS: [(&str, &str, u64); 12] = [
-    ("build, five updates, `estimate`, drop", "small", 10_000),
-    ("hashes, all screened", "screened", MANY),
-    ("texts of 17 bytes", "texts", 1_000_000),
-    ("3000 texts of 17 bytes", "texts", 3000),
-    ("`estimate`", "estimate", 1000),
-    ("`iter` of a sketch", "iter", 65536),
-    ("`iter` of a compact form", "iter of a form", 65536),
-    ("compact form, unordered", "compact(false)", 65536),
-    ("tuples of keys, sums", "tuple keys", 1_000_000),
-    ("tuples of keys, own policy", "own keys", 1_000_000),
-    ("3000 tuples of keys, own policy", "own keys", 3000),
-    ("union of 100 compact tuples, own policy", "own_union", 100),
+/// How many rows there are of the cases that PERFORMANCE.md has of the proved crates too.
+const FIRST: usize = 20;
+
+const ROWS: [Row; 32] = [
+    ("distinct hashes (hash12)", "hash12", MANY, Some("hash12")),
+    ("the same, of 4096 hashes", "hash12", 4096, Some("hash12")),
+    ("4096 hashes again and again (repeat12)", "repeat12", MANY, Some("repeat12")),
+    ("distinct hashes (hash20)", "hash20", MANY, Some("hash20")),
+    ("numbers (update12)", "update12", MANY, Some("update12")),
+    ("the same, all screened", "update_screened", MANY, Some("update_screened")),
+    ("union of 1000 compact forms", "union", 1000, Some("union")),
+    ("one form united with itself", "union_same", 1000, Some("union_same")),
+    ("union of sketches that take updates", "union_mut", 1000, Some("union_mut")),
+    ("intersection of compact forms", "meet", 65536, Some("meet")),
+    ("intersection of sketches", "meet_mut", 65536, Some("meet_mut")),
+    ("difference of compact forms", "minus", 65536, Some("minus")),
+    ("difference of sketches", "minus_mut", 65536, Some("minus_mut")),
+    ("compact form, ordered", "compact", 65536, Some("compact")),
+    ("writing", "serialize", 65536, Some("serialize")),
+    ("reading", "deserialize", 65536, Some("deserialize")),
+    ("reading what was written", "round", 65536, Some("round")),
+    ("tuples, distinct (tuple12)", "tuple12", MANY, Some("tuple12")),
+    ("tuples, summed (tuple_sum12)", "tuple_sum12", MANY, Some("tuple_sum12")),
+    ("union of 1000 compact tuples", "tuple_union", 1000, Some("tuple_union")),
+    ("build, five updates, `estimate`, drop", "small", 10_000, Some("small")),
+    ("hashes, all screened", "screened", MANY, Some("screened")),
+    ("texts of 17 bytes", "texts", 1_000_000, None),
+    ("3000 texts of 17 bytes", "texts", 3000, None),
+    ("`estimate`", "estimate", 1000, None),
+    ("`iter` of a sketch", "iter", 65536, None),
+    ("`iter` of a compact form", "iter of a form", 65536, None),
+    ("compact form, unordered", "compact(false)", 65536, None),
+    ("tuples of keys, sums", "tuple keys", 1_000_000, None),
+    ("tuples of keys, own policy", "own keys", 1_000_000, None),
+    ("3000 tuples of keys, own policy", "own keys", 3000, None),
+    ("union of 100 compact tuples, own policy", "own_union", 100, None),
 ];
 
 /// A run of a case by the program of the proved crates: how many items it had, and what it found.
-fn run_proved(program: &str, case: &str, size: u64) -> Option<(u64, Found)> {
-    let done = Command::new(program).args([case, &size.to_string(), "1"]).output().ok()?;
-    let text = String::from_utf8(done.stdout).ok()?;
-    let numbers: Vec<u64> = text.split_whitespace().skip(1).filter_map(|it| it.parse().ok()).collect();
-    match numbers[..] {
-        [_, items, _, taken, check] => Some((items, (taken, Some(check)))),
-        _ => None,
-    }
+fn run_proved(program: &str, case: &str, size: u64) -> (u64, Found) {
+    let done = Command::new(program).args([case, &size.to_string(), "1"]).output().expect("SKETCH_BENCH is a program");
+    let text = String::from_utf8_lossy(&done.stdout);
+    let words: Vec<&str> = text.split_whitespace().collect();
+    let [_, _, items, _, taken, check] = words[..] else {
+        panic!("{program} {case} {size} 1 printed {text}");
+    };
+    let number = |word: &str, base| u64::from_str_radix(word, base).expect("it prints numbers");
+    // Sketches that screen all have no number here.
+    let check = (!case.ends_with("screened")).then(|| number(check, 16));
+    (number(items, 10), (number(taken, 10), check))
 }
 
 /// Runs all in turns, prints the least times, and returns the ratio of this crate's to the original's.
-fn compare(rounds: usize, (name, case, size): (&str, &str, u64), proved: Option<&str>) -> f64 {
+fn compare(rounds: usize, (name, case, size, proved_case): Row, program: Option<&str>) -> f64 {
     let ((items, mut original), (ours_items, mut ours)) = (of_original::case(case, size), of_ours::case(case, size));
     let (mut least, mut checks) = ([f64::MAX; 3], Vec::new());
     let mut keep = |at: usize, items: u64, (taken, check): Found| {
@@ -377,15 +381,15 @@ fn compare(rounds: usize, (name, case, size): (&str, &str, u64), proved: Option<
     for _ in 0..rounds {
         keep(0, items, original());
         keep(1, ours_items, ours());
-        if let Some((items, found)) = proved.and_then(|it| run_proved(it, case, size)) {
-            // The number of `murmur8` is that of hashes, which no sketch shows.
-            keep(2, items, (found.0, found.1.filter(|_| case != "murmur8")));
+        if let (Some(program), Some(case)) = (program, proved_case) {
+            let (items, found) = run_proved(program, case, size);
+            keep(2, items, found);
         }
     }
     let [original, ours, proved] = least;
     let border = if proved < f64::MAX { format!("{proved:.2} | {:.2}", ours - proved) } else { " | ".to_string() };
     let same = if checks.windows(2).all(|it| it[0] == it[1]) { "same" } else { "DIFFERENT" };
-    println!("| {name} | {original:.2} | {ours:.2} | {:.2} | {border} | {same} |", ours / original);
+    println!("| {name} | {original:.2} | {ours:.2} | {border} | {:.2} | {same} |", ours / original);
     ours / original
 }
 
@@ -401,17 +405,16 @@ fn main() {
     let rounds: usize = std::env::args().nth(1).map_or(7, |it| it.parse().expect("ROUNDS is a number"));
     let word = std::env::args().nth(2).unwrap_or_default();
     let proved = std::env::var("SKETCH_BENCH").ok();
-    println!("| case | original | here | ratio | proved | border | answers |\n|---|---|---|---|---|---|---|");
-    let chosen = |it: &&(&str, &str, u64)| it.0.contains(&word);
-    let ratios: Vec<f64> =
-        PROVED.iter().filter(chosen).map(|it| compare(rounds, *it, proved.as_deref()).ln()).collect();
-    for row in OTHERS.iter().filter(chosen) {
+    println!("| case | original | here | below the border | border | ratio | answers |\n|---|---|---|---|---|---|---|");
+    let mut ratios = Vec::new();
+    for (at, row) in ROWS.into_iter().enumerate().filter(|it| it.1 .0.contains(&word)) {
         // Short cases run more often.
-        compare(if row.2 < 100_000 { 4 * rounds } else { rounds }, *row, None);
+        let rounds = if at >= FIRST && row.2 < 100_000 { 4 * rounds } else { rounds };
+        let ratio = compare(rounds, row, proved.as_deref());
+        ratios.extend((at < FIRST).then(|| ratio.ln()));
     }
-    println!(
-        "geometric mean of the first {}: {:.3}",
-        ratios.len(),
-        (ratios.iter().sum::<f64>() / ratios.len() as f64).exp()
-    );
+    if !ratios.is_empty() {
+        let mean = (ratios.iter().sum::<f64>() / ratios.len() as f64).exp();
+        println!("geometric mean of the ratios of {} of the first {FIRST}: {mean:.2}", ratios.len());
+    }
 }

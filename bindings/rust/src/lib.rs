@@ -33,3 +33,4 @@ mod state;
 pub mod theta;
 #[cfg(feature = "tuple")]
 pub mod tuple;
+mod watched;

@@ -37,6 +37,7 @@ impl Default for Settings {
 }
 
 impl Settings {
+    #[inline]
     pub(crate) fn checked(&self) -> Result<Checked, Error> {
         if !(4..=26).contains(&self.lg_k) {
             return Err(Error::argument(format!("lg_k is {}, and must be from 4 to 26", self.lg_k)));
@@ -67,6 +68,7 @@ impl Checked {
 }
 
 impl Start {
+    #[inline]
     fn theta(self) -> Result<u64, Error> {
         let theta = match self {
             Self::Theta(theta) => theta,

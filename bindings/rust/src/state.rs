@@ -23,13 +23,10 @@ impl State {
         self.theta as f64 / MAX_THETA as f64
     }
 
-    /// The estimate, by the formula of `datasketches` and with its bits.
+    /// The estimate, by the formula of `datasketches` and with its bits. An empty sketch retains nothing.
+    #[inline]
     pub(crate) fn estimate(self) -> f64 {
-        if self.is_empty() {
-            0.0
-        } else {
-            self.retained as f64 / self.fraction()
-        }
+        self.retained as f64 / self.fraction()
     }
 
     pub(crate) fn lower_bound(self, deviations: NumStdDev) -> f64 {

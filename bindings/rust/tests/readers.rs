@@ -1,8 +1,8 @@
 //! Two threads make all calls by `&` of the same objects at once, and each has the answers of one that is alone.
 //!
 //! checks/rust runs it under helgrind too, which tells a write that another thread may read meanwhile. So it is a program
-//! without a test harness, which has threads of its own, and what is lent of sums has been asked for before: helgrind
-//! knows locks and joins, but not the atomic flag behind which that is kept.
+//! without a test harness, which has threads of its own, and what the first call keeps has been asked for before:
+//! helgrind knows locks and joins, but not the atomic flags behind which that is kept.
 #![allow(clippy::unwrap_used)]
 
 use kaftanclay::common::NumStdDev;
@@ -61,6 +61,8 @@ impl Thetas {
         let mut intersection = ThetaIntersection::default();
         union.update(&sketch).unwrap();
         intersection.update(&forms[1]).unwrap();
+        // The state and the hashes that are kept are those of the first call.
+        let _ = (sketch.estimate(), forms.each_ref().map(|it| it.iter().count()));
         Self { sketch, forms, union, intersection }
     }
 
@@ -126,8 +128,8 @@ where
         let mut intersection = TupleIntersection::new(Q::default());
         union.update(&sketch).unwrap();
         intersection.update(&forms[1]).unwrap();
-        // What is lent of sums is kept by the first call.
-        let _ = (sketch.iter().count(), forms.each_ref().map(|it| it.iter().count()));
+        // The state, and what is lent of sums, are kept by the first call.
+        let _ = (sketch.estimate(), sketch.iter().count(), forms.each_ref().map(|it| it.iter().count()));
         Self { sketch, forms, union, intersection }
     }
 

@@ -33,6 +33,7 @@ use kaftanclay::theta::{
     CompactThetaSketch, ThetaANotB, ThetaEntry, ThetaIntersection, ThetaSketch, ThetaSketchBuilder, ThetaSketchView,
     ThetaUnion, ThetaUnionBuilder,
 };
+use std::collections::BTreeSet;
 use std::hash::Hash;
 
 const MAX_THETA: u64 = i64::MAX as u64;
@@ -248,6 +249,63 @@ fn trim_keeps_the_least_hashes() {
     assert_eq!(sketch.num_retained(), 32);
     sketch.reset();
     assert_eq!((sketch.is_empty(), sketch.num_retained(), sketch.theta64()), (true, 0, MAX_THETA));
+}
+
+/// Output number `number` of splitmix64.
+fn random(number: u64) -> u64 {
+    let mut x = number.wrapping_add(1).wrapping_mul(0x9e37_79b9_7f4a_7c15);
+    x = (x ^ (x >> 30)).wrapping_mul(0xbf58_476d_1ce4_e5b9);
+    x = (x ^ (x >> 27)).wrapping_mul(0x94d0_49bb_1331_11eb);
+    x ^ (x >> 31)
+}
+
+/// What is known of a sketch without a call is so: beside all hashes since the last reset, and a form that is made anew.
+#[test]
+fn screened_hashes_and_readings_follow_each_change() {
+    for start in [MAX_THETA, 1 << 61] {
+        let mut sketch = ThetaSketchBuilder::default().lg_k(5).starting_theta(start).build().unwrap();
+        let mut given = BTreeSet::new();
+        let mut resets = 0;
+        for turn in 0..10_000 {
+            let hash = random(turn) >> 1;
+            match random(!turn) % 1000 {
+                0 => {
+                    sketch.reset();
+                    given.clear();
+                    resets += 1;
+                    assert!(sketch.is_empty());
+                    // Sketches before the reset screened these.
+                    for hash in [u64::MAX, MAX_THETA - 1] {
+                        sketch.update_hash(hash);
+                        given.insert(hash);
+                    }
+                }
+                1..=3 => sketch.trim(),
+                4..=40 => {
+                    sketch.update(turn);
+                    given.insert(hash_of(turn));
+                }
+                41..=43 => {
+                    let hash = [0, sketch.theta64() - 1, sketch.theta64()][turn as usize % 3];
+                    sketch.update_hash(hash);
+                    given.insert(hash);
+                }
+                _ => {
+                    sketch.update_hash(hash);
+                    given.insert(hash);
+                }
+            }
+            let form = sketch.compact(true);
+            let retained: Vec<u64> = given.range(1..form.theta64()).copied().collect();
+            assert_eq!(hashes(form.iter()), retained, "after turn {turn}");
+            assert_eq!((sketch.is_empty(), sketch.theta64()), (given.is_empty(), form.theta64()));
+            for _ in 0..2 {
+                assert_eq!((sketch.num_retained(), sketch.estimate()), (retained.len(), form.estimate()));
+                assert_eq!(sketch.upper_bound(NumStdDev::Two), form.upper_bound(NumStdDev::Two));
+            }
+        }
+        assert!(resets > 3);
+    }
 }
 
 #[test]
@@ -526,6 +584,9 @@ fn sizes_and_texts_are_there() {
     assert_eq!(many.estimated_size(), 8 << 13);
     let form = many.compact(true);
     assert_eq!(form.estimated_size(), 8 * form.num_retained());
+    let listed = hashes(form.iter());
+    assert_eq!(form.clone().estimated_size(), 16 * form.num_retained());
+    assert_eq!(hashes(form.clone().iter()), listed);
     let union = union_of(12, [few.as_view()]);
     let mut intersection = ThetaIntersection::default();
     assert_eq!(intersection.estimated_size(), 0);

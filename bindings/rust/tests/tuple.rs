@@ -464,6 +464,48 @@ fn ready_hashes_are_keys_of_their_own() {
     assert_same(&sum.compact(true), &own.compact(true));
 }
 
+/// What is known of a sketch of sums without a call is so: beside a policy of one's own, whose summaries are a map's.
+#[test]
+fn screened_hashes_and_sums_follow_each_change() {
+    let (mut sum, mut own) = (sums(5), own(5));
+    for turn in 0..10_000_u64 {
+        let random = |number: u64| number.wrapping_add(1).wrapping_mul(0x9e37_79b9_7f4a_7c15).rotate_left(29) >> 1;
+        let hash = random(random(turn % 3000));
+        match random(random(!turn)) % 1000 {
+            0 => {
+                sum.reset();
+                own.reset();
+                // Sketches before the reset screened this.
+                sum.update_hash(i64::MAX as u64 - 1, turn);
+                own.update_hash(i64::MAX as u64 - 1, turn);
+            }
+            1..=3 => {
+                sum.trim();
+                own.trim();
+            }
+            4..=40 => {
+                sum.update(turn, turn);
+                own.update(turn, turn);
+            }
+            _ => {
+                sum.update_hash(hash, turn);
+                own.update_hash(hash, turn);
+            }
+        }
+        let known = (sum.is_empty(), sum.theta64(), sum.num_retained(), sum.estimate());
+        assert_eq!(known, (own.is_empty(), own.theta64(), own.num_retained(), own.estimate()), "after turn {turn}");
+        assert_eq!(pairs(sum.iter()), pairs(own.iter()), "after turn {turn}");
+        if let Some((hash, value)) = pairs(sum.iter()).into_iter().find(|it| it.1 > 0) {
+            // A sum that is refused changes nothing, and a hash that is screened has no sum.
+            assert_eq!(sum.try_update_hash(hash, u64::MAX).unwrap_err().kind(), ErrorKind::Policy);
+            assert_eq!((sum.num_retained(), sum.theta64()), (known.2, known.1));
+            assert!(pairs(sum.iter()).contains(&(hash, value)));
+            sum.try_update_hash(sum.theta64(), u64::MAX).unwrap();
+        }
+    }
+    assert_same(&sum.compact(true), &own.compact(true));
+}
+
 #[test]
 fn sketches_of_other_seeds_are_refused() {
     let build = |seed| TupleSketchBuilder::new(OwnSum).seed(seed).build().unwrap();

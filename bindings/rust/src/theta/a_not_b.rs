@@ -34,7 +34,7 @@ impl Default for ThetaANotB {
 
 fn form(view: ThetaSketchView<'_>) -> Result<Lent<'_, border::Compact>, Error> {
     match view.0 {
-        Viewed::Sketch(sketch) => sketch.object.compact(false).map(Lent::Made),
+        Viewed::Sketch(sketch) => sketch.object().compact(false).map(Lent::Made),
         Viewed::Form(form) => Ok(Lent::Given(form.object())),
     }
 }
@@ -63,7 +63,7 @@ impl ThetaANotB {
         let (a, b) = (a.into(), b.into());
         let made = match (a.0, b.0) {
             (Viewed::Sketch(first), Viewed::Sketch(second)) if ordered => {
-                first.object.minus_updated(&second.object, self.seed)
+                first.object().minus_updated(second.object(), self.seed)
             }
             _ => form(a)?.minus(&*form(b)?, self.seed, ordered),
         };

@@ -1,13 +1,13 @@
 //! The compact sketch.
 
-use super::view::Entries;
 use super::{ThetaEntry, ThetaSketchView};
 use crate::border::{self, State};
 use crate::common::NumStdDev;
 use crate::error::{must, Error, ErrorKind};
 use crate::hash::{seed_hash, DEFAULT_UPDATE_SEED};
 use std::fmt;
-use std::sync::Arc;
+use std::mem::size_of;
+use std::sync::{Arc, OnceLock};
 
 /// A theta sketch that never changes, and has an image. A clone shares the hashes with it.
 #[derive(Clone)]
@@ -18,6 +18,8 @@ pub struct CompactThetaSketch {
 struct Kept {
     object: border::Compact,
     state: State,
+    /// The entries, once somebody has asked for them.
+    entries: OnceLock<Vec<ThetaEntry>>,
 }
 
 impl fmt::Debug for CompactThetaSketch {
@@ -32,7 +34,7 @@ impl fmt::Debug for CompactThetaSketch {
 impl CompactThetaSketch {
     pub(super) fn of(object: border::Compact) -> Self {
         let state = object.state();
-        Self { kept: Arc::new(Kept { object, state }) }
+        Self { kept: Arc::new(Kept { object, state, entries: OnceLock::new() }) }
     }
 
     pub(super) fn object(&self) -> &border::Compact {
@@ -84,22 +86,28 @@ impl CompactThetaSketch {
         self.kept.object.seed_hash()
     }
 
-    /// The retained entries, in the order of the image. Each call copies the hashes once.
+    /// The retained entries, in the order of the image. The hashes are copied at the first call, and the sketch keeps
+    /// the copy, 8 bytes for each.
     ///
     /// # Panics
     ///
     /// If memory is refused; [`try_iter`](Self::try_iter) returns that as an error.
     pub fn iter(&self) -> impl Iterator<Item = ThetaEntry> + '_ {
-        must(self.entries())
+        must(self.try_iter())
     }
 
     /// The retained entries, or `OutOfMemory`.
     pub fn try_iter(&self) -> Result<impl Iterator<Item = ThetaEntry> + '_, Error> {
-        self.entries()
+        Ok(self.entries()?.iter().copied())
     }
 
-    pub(super) fn entries(&self) -> Result<Entries, Error> {
-        self.kept.object.hashes().map(Entries::of)
+    fn entries(&self) -> Result<&[ThetaEntry], Error> {
+        if let Some(entries) = self.kept.entries.get() {
+            return Ok(entries);
+        }
+        // The hashes become entries where they are.
+        let entries = self.kept.object.hashes()?.into_iter().map(ThetaEntry::of).collect();
+        Ok(self.kept.entries.get_or_init(|| entries))
     }
 
     /// A lower bound of how many different values there were, a whole number (`datasketches` has another interval).
@@ -149,6 +157,7 @@ impl CompactThetaSketch {
 
     /// How many bytes of memory the hashes have.
     pub fn estimated_size(&self) -> usize {
-        self.kept.object.estimated_size()
+        let copied = self.kept.entries.get().map_or(0, Vec::capacity);
+        self.kept.object.estimated_size() + size_of::<ThetaEntry>() * copied
     }
 }

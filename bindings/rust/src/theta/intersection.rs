@@ -49,7 +49,7 @@ impl ThetaIntersection {
     pub fn update<'a>(&mut self, sketch: impl Into<ThetaSketchView<'a>>) -> Result<(), Error> {
         let view = sketch.into();
         let added = match view.0 {
-            Viewed::Sketch(sketch) => self.object.add(&sketch.object),
+            Viewed::Sketch(sketch) => self.object.add(sketch.object()),
             Viewed::Form(form) => self.object.add_form(form.object()),
         };
         added.map_err(|error| view.refusal(error, self.seed_hash))?;

@@ -1,28 +1,32 @@
 //! The sketch that takes updates, and its builder.
 
-use super::view::Entries;
 use super::{CompactThetaSketch, ThetaEntry, ThetaSketchView};
 use crate::border;
 use crate::common::{NumStdDev, ResizeFactor};
 use crate::error::{must, Error};
 use crate::hash::Gathered;
 use crate::settings::{setters, Checked, Settings, Start};
+use crate::watched::Watched;
 use std::fmt;
 use std::hash::Hash;
 
 /// A theta sketch that takes updates.
 pub struct ThetaSketch {
-    pub(super) object: border::Theta,
+    sketch: Watched<border::ThetaKind>,
     settings: Checked,
 }
 
 impl fmt::Debug for ThetaSketch {
     fn fmt(&self, f: &mut fmt::Formatter<'_>) -> fmt::Result {
-        f.debug_struct("ThetaSketch").field("lg_k", &self.settings.lg_k).field("state", &self.object.state()).finish()
+        f.debug_struct("ThetaSketch").field("lg_k", &self.settings.lg_k).field("state", &self.sketch.state()).finish()
     }
 }
 
 impl ThetaSketch {
+    pub(super) fn object(&self) -> &border::Theta {
+        self.sketch.object()
+    }
+
     /// A view of the sketch, for unions, intersections and differences.
     pub fn as_view(&self) -> ThetaSketchView<'_> {
         self.into()
@@ -57,7 +61,8 @@ impl ThetaSketch {
     /// `OutOfMemory`, only for a new hash below theta; the sketch is unchanged then.
     #[inline]
     pub fn try_update<T: Hash>(&mut self, value: T) -> Result<(), Error> {
-        self.object.update_bytes(Gathered::of(value).bytes())
+        let value = Gathered::of(value);
+        self.sketch.change(|object| object.update_bytes(value.bytes()))
     }
 
     /// Updates the sketch with a hash of 63 bits of your own. One that is 0 or at least theta isn't retained, but the
@@ -78,22 +83,22 @@ impl ThetaSketch {
     /// As those of [`try_update`](Self::try_update).
     #[inline]
     pub fn try_update_hash(&mut self, hash: u64) -> Result<(), Error> {
-        self.object.update_hash(hash)
+        self.sketch.update_at(hash, |object| object.update_hash(hash))
     }
 
     /// The estimate of how many different values there were: retained / theta, 0 if the sketch is empty.
     pub fn estimate(&self) -> f64 {
-        self.object.state().estimate()
+        self.sketch.state().estimate()
     }
 
     /// Theta as a fraction, above 0 and at most 1.
     pub fn theta(&self) -> f64 {
-        self.object.state().fraction()
+        self.sketch.state().fraction()
     }
 
     /// Theta, from 1 to 2^63 - 1. An empty sketch has 2^63 - 1, also if it begins at another theta.
     pub fn theta64(&self) -> u64 {
-        self.object.state().theta
+        self.sketch.state().theta
     }
 
     /// The hash of the seed, of 16 bits.
@@ -103,17 +108,17 @@ impl ThetaSketch {
 
     /// Whether there was no update since the sketch was new or reset.
     pub fn is_empty(&self) -> bool {
-        self.object.state().is_empty()
+        self.sketch.state().is_empty()
     }
 
     /// Whether the sketch is nonempty and its theta is below 2^63 - 1, so that it estimates.
     pub fn is_estimation_mode(&self) -> bool {
-        self.object.state().is_estimation_mode()
+        self.sketch.state().is_estimation_mode()
     }
 
     /// How many hashes the sketch retains.
     pub fn num_retained(&self) -> usize {
-        self.object.state().retained as usize
+        self.sketch.state().retained as usize
     }
 
     /// The binary logarithm of the nominal entries.
@@ -137,12 +142,12 @@ impl ThetaSketch {
     ///
     /// `OutOfMemory`; the sketch is unchanged then.
     pub fn try_trim(&mut self) -> Result<(), Error> {
-        self.object.trim()
+        self.sketch.trim()
     }
 
     /// Makes the sketch empty again, as when it was new.
     pub fn reset(&mut self) {
-        self.object.reset();
+        self.sketch.reset();
     }
 
     /// The retained entries, in no order that is promised. Each call copies the hashes once.
@@ -151,16 +156,12 @@ impl ThetaSketch {
     ///
     /// If memory is refused; [`try_iter`](Self::try_iter) returns that as an error.
     pub fn iter(&self) -> impl Iterator<Item = ThetaEntry> + '_ {
-        must(self.entries())
+        must(self.try_iter())
     }
 
     /// The retained entries, or `OutOfMemory`.
     pub fn try_iter(&self) -> Result<impl Iterator<Item = ThetaEntry> + '_, Error> {
-        self.entries()
-    }
-
-    pub(super) fn entries(&self) -> Result<Entries, Error> {
-        self.object.hashes().map(Entries::of)
+        Ok(self.object().hashes()?.into_iter().map(ThetaEntry::of))
     }
 
     /// The compact form, of the same hashes and theta. If it is `ordered`, its hashes ascend; else they are in any
@@ -175,22 +176,22 @@ impl ThetaSketch {
 
     /// The compact form, or `OutOfMemory`.
     pub fn try_compact(&self, ordered: bool) -> Result<CompactThetaSketch, Error> {
-        self.object.compact(ordered).map(CompactThetaSketch::of)
+        self.object().compact(ordered).map(CompactThetaSketch::of)
     }
 
     /// A lower bound of how many different values there were, a whole number (`datasketches` has another interval).
     pub fn lower_bound(&self, num_std_dev: NumStdDev) -> f64 {
-        self.object.state().lower_bound(num_std_dev)
+        self.sketch.state().lower_bound(num_std_dev)
     }
 
     /// An upper bound of how many different values there were, a whole number.
     pub fn upper_bound(&self, num_std_dev: NumStdDev) -> f64 {
-        self.object.state().upper_bound(num_std_dev)
+        self.sketch.state().upper_bound(num_std_dev)
     }
 
     /// How many bytes of memory the slots have.
     pub fn estimated_size(&self) -> usize {
-        self.object.estimated_size()
+        self.object().estimated_size()
     }
 }
 
@@ -216,10 +217,11 @@ impl ThetaSketchBuilder {
     /// # Errors
     ///
     /// `InvalidArgument` if a setting is out of range or the hash of the seed is 0; `OutOfMemory`.
+    #[inline]
     pub fn build(self) -> Result<ThetaSketch, Error> {
         let settings = self.settings.checked()?;
         let object = border::Theta::new(settings.lg_k, settings.seed, settings.factor, settings.start)
             .map_err(|error| settings.refusal(error))?;
-        Ok(ThetaSketch { object, settings })
+        Ok(ThetaSketch { sketch: Watched::of(object), settings })
     }
 }

@@ -30,7 +30,7 @@ impl ThetaUnion {
     pub fn update<'a>(&mut self, sketch: impl Into<ThetaSketchView<'a>>) -> Result<(), Error> {
         let view = sketch.into();
         let added = match view.0 {
-            Viewed::Sketch(sketch) => self.object.add(&sketch.object),
+            Viewed::Sketch(sketch) => self.object.add(sketch.object()),
             Viewed::Form(form) => self.object.add_form(form.object()),
         };
         added.map_err(|error| view.refusal(error, self.settings.seed_hash()))

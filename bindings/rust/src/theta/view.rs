@@ -3,7 +3,6 @@
 use super::{CompactThetaSketch, ThetaSketch};
 use crate::error::{must, Error, ErrorKind};
 use std::num::NonZeroU64;
-use std::vec;
 
 /// A retained entry: a hash from 1 to 2^63 - 2.
 #[derive(Debug, Clone, Copy)]
@@ -13,7 +12,7 @@ pub struct ThetaEntry {
 
 impl ThetaEntry {
     #[inline]
-    fn of(hash: u64) -> Self {
+    pub(super) fn of(hash: u64) -> Self {
         Self { hash: NonZeroU64::new(hash).expect("a retained hash is not 0") }
     }
 
@@ -23,25 +22,28 @@ impl ThetaEntry {
     }
 }
 
-/// The entries of a sketch, as the C library has copied them.
-pub(super) struct Entries(vec::IntoIter<u64>);
-
-impl Entries {
-    pub(super) fn of(hashes: Vec<u64>) -> Self {
-        Self(hashes.into_iter())
-    }
+/// The entries of a sketch of either kind.
+enum Entries<S, F> {
+    Sketch(S),
+    Form(F),
 }
 
-impl Iterator for Entries {
+impl<S: Iterator<Item = ThetaEntry>, F: Iterator<Item = ThetaEntry>> Iterator for Entries<S, F> {
     type Item = ThetaEntry;
 
     #[inline]
     fn next(&mut self) -> Option<ThetaEntry> {
-        self.0.next().map(ThetaEntry::of)
+        match self {
+            Self::Sketch(entries) => entries.next(),
+            Self::Form(entries) => entries.next(),
+        }
     }
 
     fn size_hint(&self) -> (usize, Option<usize>) {
-        self.0.size_hint()
+        match self {
+            Self::Sketch(entries) => entries.size_hint(),
+            Self::Form(entries) => entries.size_hint(),
+        }
     }
 }
 
@@ -100,19 +102,15 @@ impl<'a> ThetaSketchView<'a> {
     ///
     /// If memory is refused; [`try_iter`](Self::try_iter) returns that as an error.
     pub fn iter(self) -> impl Iterator<Item = ThetaEntry> + 'a {
-        must(self.entries())
+        must(self.try_iter())
     }
 
     /// The retained entries, or `OutOfMemory`.
     pub fn try_iter(self) -> Result<impl Iterator<Item = ThetaEntry> + 'a, Error> {
-        self.entries()
-    }
-
-    fn entries(self) -> Result<Entries, Error> {
-        match self.0 {
-            Viewed::Sketch(sketch) => sketch.entries(),
-            Viewed::Form(form) => form.entries(),
-        }
+        Ok(match self.0 {
+            Viewed::Sketch(sketch) => Entries::Sketch(sketch.try_iter()?),
+            Viewed::Form(form) => Entries::Form(form.try_iter()?),
+        })
     }
 
     /// How many hashes the sketch retains.

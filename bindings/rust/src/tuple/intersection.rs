@@ -68,7 +68,7 @@ impl<P: SummaryCombinePolicy> TupleIntersection<P> {
         let seed_hash = seed_hash(seed, ErrorKind::InvalidArgument)?;
         let store = match mode_of::<P, DefaultUnionPolicy<u64>>() {
             Some(mode) => Store::Sums(border::SumsIntersection::by_mode(seed, mode)?),
-            None => Store::Own { keys: border::Intersection::intersection(seed)?, map: Map::new() },
+            None => Store::Own { keys: border::Intersection::intersection(seed)?, map: Map::default() },
         };
         Ok(Self { store, seed, seed_hash, begun: false, policy })
     }
@@ -174,7 +174,7 @@ where
     P: SummaryCombinePolicy,
     P::Summary: Clone,
 {
-    let mut next = Map::new();
+    let mut next = Map::default();
     let most = before.map_or(usize::MAX, Map::len).min(view.num_retained());
     next.try_reserve(most).map_err(|_| Error::out_of_memory())?;
     for entry in view.entries()? {

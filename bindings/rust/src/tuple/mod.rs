@@ -28,6 +28,7 @@ mod entry;
 mod image;
 mod intersection;
 mod own;
+mod places;
 mod policy;
 mod sketch;
 mod sums;

@@ -1,6 +1,7 @@
 //! Sketches with a policy of your own: a theta sketch of the C library decides which hashes are retained, and a map
 //! keeps their summaries.
 
+use super::places::Places;
 use super::policy::SummaryUpdatePolicy;
 use super::TupleEntry;
 use crate::border::{self, vector, State};
@@ -9,8 +10,8 @@ use crate::settings::Checked;
 use std::collections::hash_map::{Entry, HashMap};
 use std::mem::size_of;
 
-/// The entries by their hashes. The map hashes them again, under a key of its own, since a caller may choose them.
-pub(super) type Map<S> = HashMap<u64, TupleEntry<S>>;
+/// The entries by their hashes.
+pub(super) type Map<S> = HashMap<u64, TupleEntry<S>, Places>;
 
 /// A sketch that takes updates. Between calls the map has exactly the hashes that the theta sketch retains.
 pub(super) struct OwnSketch<S> {
@@ -34,7 +35,7 @@ impl<S> OwnSketch<S> {
         let keys = border::Theta::new(settings.lg_k, settings.seed, settings.factor, settings.start)
             .map_err(|error| settings.refusal(error))?;
         let (start, theta) = (settings.start, settings.start);
-        Ok(Self { keys, map: Map::new(), settings, start, theta, empty: true })
+        Ok(Self { keys, map: Map::default(), settings, start, theta, empty: true })
     }
 
     /// The sketch of these entries. They are those of a sketch with these settings, so no more than it can have.
@@ -103,7 +104,11 @@ impl<S> OwnSketch<S> {
             }
             return Ok(());
         }
-        self.map.try_reserve(1).map_err(|_| Error::out_of_memory())?;
+        if self.map.len() == self.map.capacity() {
+            // Four times as many, if there is memory, so that few entries are moved.
+            let grown = self.map.try_reserve((3 * self.map.len()).max(1));
+            grown.or_else(|_| self.map.try_reserve(1)).map_err(|_| Error::out_of_memory())?;
+        }
         match self.map.entry(hash) {
             Entry::Occupied(mut kept) => policy.update(&mut kept.get_mut().summary, value),
             Entry::Vacant(place) => {

@@ -105,7 +105,7 @@ impl<P: SummaryPolicy> TupleSketch<P> {
     {
         let key = Gathered::of(key);
         if let (Store::Sums(sketch), Some(number)) = (&mut self.store, P::number(&value)) {
-            return sketch.changed().add_bytes(key.bytes(), number);
+            return sketch.add_bytes(key.bytes(), number);
         }
         self.update_own(border::hash_of_bytes(self.settings.seed, key.bytes()), value)
     }
@@ -135,7 +135,7 @@ impl<P: SummaryPolicy> TupleSketch<P> {
         P: SummaryUpdatePolicy<U>,
     {
         if let (Store::Sums(sketch), Some(number)) = (&mut self.store, P::number(&value)) {
-            return sketch.changed().add_hash(hash, number);
+            return sketch.add_hash(hash, number);
         }
         self.update_own(hash, value)
     }
@@ -162,7 +162,7 @@ impl<P: SummaryPolicy> TupleSketch<P> {
                 let sum = border::number_as(*it.summary()).expect("the C library has sums of u64 alone");
                 TupleEntry::of(it.hash(), sum)
             });
-            self.store = Store::Own(OwnSketch::of_entries(self.settings, sketch.object().state(), copies)?);
+            self.store = Store::Own(OwnSketch::of_entries(self.settings, sketch.state(), copies)?);
         }
         Ok(())
     }
@@ -224,7 +224,7 @@ impl<P: SummaryPolicy> TupleSketch<P> {
     /// `OutOfMemory`; the sketch is unchanged then.
     pub fn try_trim(&mut self) -> Result<(), Error> {
         match &mut self.store {
-            Store::Sums(sketch) => sketch.changed().trim(),
+            Store::Sums(sketch) => sketch.trim(),
             Store::Own(sketch) => sketch.trim(),
         }
     }
@@ -232,7 +232,7 @@ impl<P: SummaryPolicy> TupleSketch<P> {
     /// Makes the sketch empty again, as when it was new.
     pub fn reset(&mut self) {
         match &mut self.store {
-            Store::Sums(sketch) => sketch.changed().reset(),
+            Store::Sums(sketch) => sketch.reset(),
             Store::Own(sketch) => sketch.reset(),
         }
     }

@@ -1,14 +1,15 @@
 //! Sketches of sums, least or greatest values that are the C library's, and the entries that are lent of them.
 
 use super::TupleEntry;
-use crate::border::{self, vector, Mode, Object, Summed};
+use crate::border::{self, vector, Mode, Object, State, Summed, SumsKind};
 use crate::error::Error;
 use crate::settings::Checked;
+use crate::watched::Watched;
 use std::sync::OnceLock;
 
 /// A sketch of sums that takes updates.
 pub(super) struct SumsSketch {
-    object: border::Sums,
+    sketch: Watched<SumsKind>,
     settings: Checked,
     /// The entries, once somebody has asked for them since the last change.
     entries: OnceLock<Vec<TupleEntry<u64>>>,
@@ -18,7 +19,7 @@ impl SumsSketch {
     pub(super) fn new(settings: Checked, mode: Mode) -> Result<Self, Error> {
         let Checked { lg_k, factor, start, seed } = settings;
         let object = border::Sums::new(lg_k, seed, factor, start, mode).map_err(|error| settings.refusal(error))?;
-        Ok(Self { object, settings, entries: OnceLock::new() })
+        Ok(Self { sketch: Watched::of(object), settings, entries: OnceLock::new() })
     }
 
     pub(super) fn seed_hash(&self) -> u16 {
@@ -26,20 +27,40 @@ impl SumsSketch {
     }
 
     pub(super) fn object(&self) -> &border::Sums {
-        &self.object
+        self.sketch.object()
     }
 
-    /// The object, for a call that changes it.
+    pub(super) fn state(&self) -> State {
+        self.sketch.state()
+    }
+
     #[inline]
-    pub(super) fn changed(&mut self) -> &mut border::Sums {
-        if self.entries.get().is_some() {
-            self.entries = OnceLock::new();
-        }
-        &mut self.object
+    pub(super) fn add_bytes(&mut self, bytes: &[u8], value: u64) -> Result<(), Error> {
+        self.entries.take();
+        self.sketch.change(|object| object.add_bytes(bytes, value))
+    }
+
+    #[inline]
+    pub(super) fn add_hash(&mut self, hash: u64, value: u64) -> Result<(), Error> {
+        let Self { sketch, entries, .. } = self;
+        sketch.update_at(hash, |object| {
+            entries.take();
+            object.add_hash(hash, value)
+        })
+    }
+
+    pub(super) fn trim(&mut self) -> Result<(), Error> {
+        self.entries.take();
+        self.sketch.trim()
+    }
+
+    pub(super) fn reset(&mut self) {
+        self.entries.take();
+        self.sketch.reset();
     }
 
     pub(super) fn entries(&self) -> Result<&[TupleEntry<u64>], Error> {
-        lent(&self.entries, &self.object)
+        lent(&self.entries, self.object())
     }
 }
 

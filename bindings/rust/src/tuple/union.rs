@@ -149,7 +149,14 @@ impl<S: Clone> OwnUnion<S> {
         }
         self.whole = false;
         self.bound = self.bound.min(state.theta);
-        for entry in entries.filter(|it| it.hash() < self.bound) {
+        let ascending = view.is_ordered();
+        for entry in entries {
+            if entry.hash() >= self.bound {
+                if ascending {
+                    break;
+                }
+                continue;
+            }
             match self.map.entry(entry.hash()) {
                 Entry::Occupied(mut kept) => policy.combine(&mut kept.get_mut().summary, entry.summary()),
                 Entry::Vacant(place) => {
@@ -206,7 +213,7 @@ impl<P: SummaryCombinePolicy> TupleUnionBuilder<P> {
             Store::Sums(object.map_err(|error| settings.refusal(error))?)
         } else {
             let keys = border::Union::union(lg_k, seed, factor, start).map_err(|error| settings.refusal(error))?;
-            Store::Own(OwnUnion { keys, map: Map::new(), bound: start, whole: true })
+            Store::Own(OwnUnion { keys, map: Map::default(), bound: start, whole: true })
         };
         Ok(TupleUnion { store, settings, policy: self.policy })
     }

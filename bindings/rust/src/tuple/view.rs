@@ -86,7 +86,7 @@ impl<S> fmt::Debug for TupleSketchView<'_, S> {
 impl<'a, S> TupleSketchView<'a, S> {
     pub(super) fn state(&self) -> State {
         match self.0 {
-            Viewed::Sums(sketch) => sketch.object().state(),
+            Viewed::Sums(sketch) => sketch.state(),
             Viewed::Own(sketch) => sketch.state(),
             Viewed::Form(form) => form.state,
         }
