@@ -13,8 +13,6 @@ from ._sketch import CompactSketch, Merge, Sketch, UpdatableSketch, image_of, re
 
 __all__ = ["CompactThetaSketch", "Key", "ThetaIntersection", "ThetaSketch", "ThetaUnion"]
 
-_EMPTY = bytes.fromhex("010303 00001e 0000")
-
 # The most bytes of one read of a file.
 _BLOCK = 1 << 18
 
@@ -100,9 +98,8 @@ class CompactThetaSketch(CompactSketch, ThetaValue, _native.CompactTheta):
         InvalidArgumentError if lg_k isn't from 4 to 26 or the seed from 0 to 2^64 - 1, TypeError for anything but bytes, and
         OutOfMemoryError.
         """
-        data, seed = image_of(data), seed_of(seed)
-        # The difference with the empty sketch is the sketch itself, ordered, as the library writes it.
-        return cls._of_image(_native.images_difference(data, _EMPTY, seed), seed, lg_k)
+        seed = seed_of(seed)
+        return cls._of(*_native.theta_read(image_of(data), seed), seed, lg_k)
 
 
 class ThetaSketch(UpdatableSketch, ThetaValue, _native.Theta):

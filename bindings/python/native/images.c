@@ -54,11 +54,26 @@ kc_status read_entries(kc_compact_sums *sketch, uint64_t **entries, uint64_t *co
     return kc_compact_sums_entries(sketch, *entries, *entries + state.retained, (size_t)state.retained, count);
 }
 
-/* KC_INVALID_DATA for an image with bytes behind it; what is found in it is written. Other faults are for the call that reads it. */
-kc_status check_end(bool of_sums, const char *image, Py_ssize_t count, unsigned long long seed, kc_finding *found) {
-    found->flaw = KC_FLAW_DAMAGED, found->found = 0;
-    kc_status status = of_sums ? kc_sums_image_flaw(image, (size_t)count, seed, found) : kc_image_flaw(image, (size_t)count, seed, found);
-    return status == KC_OK && found->length != 0 && found->length < (uint64_t)count ? KC_INVALID_DATA : KC_OK;
+static kc_status read_all(bool of_sums, Result *sketch, const char *image, size_t count, uint64_t seed, kc_finding *found) {
+    return of_sums ? kc_compact_sums_read_whole(&sketch->sums, image, count, seed, found)
+                   : kc_compact_read_whole(&sketch->theta, image, count, seed, found);
+}
+
+/* The sketch that bytes of others are, all of them. With KC_INVALID_DATA, why they are none is written. */
+kc_status read_whole(bool of_sums, Result *sketch, const char *image, Py_ssize_t count, unsigned long long seed, kc_finding *found) {
+    kc_status status;
+    if (count < 8 * MANY) status = read_all(of_sums, sketch, image, (size_t)count, seed, found);
+    else WITHOUT_LOCK(status, read_all(of_sums, sketch, image, (size_t)count, seed, found));
+    return status;
+}
+
+void free_result(bool of_sums, Result *sketch) {
+    if (of_sums) kc_compact_sums_free(&sketch->sums);
+    else kc_compact_free(&sketch->theta);
+}
+
+kc_status state_of_result(bool of_sums, const Result *sketch, kc_state *state) {
+    return of_sums ? kc_compact_sums_state(&sketch->sums, state) : kc_compact_state(&sketch->theta, state);
 }
 
 /* Sets the error of bytes that aren't one image, with what was found in them if the status is KC_INVALID_DATA. */
@@ -89,15 +104,7 @@ static kc_status subtract(void *what, void *out, size_t room, uint64_t *length) 
 static PyObject *combined(PyObject *given, Writer writer) {
     Images it;
     if (!PyArg_ParseTuple(given, "y#y#K", &it.first, &it.first_count, &it.second, &it.second_count, &it.seed)) return NULL;
-    kc_finding found, other;
-    Output output;
-    kc_status status = check_end(false, it.first, it.first_count, it.seed, &found);
-    if (status != KC_OK) return refuse_bytes(status, &found);
-    status = check_end(false, it.second, it.second_count, it.seed, &other);
-    if (status != KC_OK) return refuse_bytes(status, &other);
-    status = write_output(writer, &it, (size_t)it.first_count + 24, it.first_count + it.second_count > 8 * MANY, &output);
-    /* Only the first may be bytes of others. */
-    return status == KC_INVALID_DATA ? refuse_bytes(status, &found) : bytes_of_output(status, &output);
+    return written(writer, &it, (size_t)it.first_count + 24, it.first_count + it.second_count > 8 * MANY);
 }
 
 static PyObject *images_intersect(PyObject *module, PyObject *given) { return (void)module, combined(given, intersect); }
@@ -151,13 +158,45 @@ static PyObject *sums_read(PyObject *module, PyObject *given) {
     const char *image;
     Py_ssize_t count;
     unsigned long long seed;
-    kc_compact_sums sketch = {0};
+    Result sketch = {{0}};
     kc_finding found;
-    kc_status status;
     (void)module;
     if (!PyArg_ParseTuple(given, "y#K", &image, &count, &seed)) return NULL;
-    WITHOUT_LOCK(status, kc_compact_sums_read_whole(&sketch, image, (size_t)count, seed, &found));
-    return status == KC_OK ? result_of_sums(&sketch) : refuse_bytes(status, &found);
+    kc_status status = read_whole(true, &sketch, image, count, seed, &found);
+    return status == KC_OK ? result_of_sums(&sketch.sums) : refuse_bytes(status, &found);
+}
+
+/* Makes a sketch ordered: its difference with the empty sketch is the sketch itself, ordered. */
+static kc_status order(kc_compact *sketch, uint64_t seed) {
+    const kc_state none = {0, KC_MAX_THETA, 1};
+    uint32_t is_ordered;
+    kc_compact empty = {0}, made = {0};
+    kc_status status = kc_compact_is_ordered(sketch, &is_ordered);
+    if (status != KC_OK || is_ordered == 1) return status;
+    status = kc_compact_of_hashes(&empty, &none, 1, NULL, 0, seed);
+    if (status == KC_OK) WITHOUT_LOCK(status, kc_difference(sketch, &empty, seed, &made));
+    kc_compact_free(&empty);
+    if (status == KC_OK) {
+        kc_compact_free(sketch);
+        *sketch = made;
+    }
+    return status;
+}
+
+static PyObject *theta_read(PyObject *module, PyObject *given) {
+    const char *image;
+    Py_ssize_t count;
+    unsigned long long seed;
+    Result sketch = {{0}};
+    kc_finding found;
+    (void)module;
+    if (!PyArg_ParseTuple(given, "y#K", &image, &count, &seed)) return NULL;
+    kc_status status = read_whole(false, &sketch, image, count, seed, &found);
+    if (status != KC_OK) return refuse_bytes(status, &found);
+    status = order(&sketch.theta, seed);
+    if (status == KC_OK) return result_of_compact(&sketch.theta);
+    kc_compact_free(&sketch.theta);
+    return refuse(status, NULL);
 }
 
 static PyObject *sums_total(PyObject *module, PyObject *given) {
@@ -266,7 +305,8 @@ PyMethodDef functions[] = {
     {"images_intersect", images_intersect, METH_VARARGS, "The image of the intersection of the sketches of two images, of a seed."},
     {"images_difference", images_difference, METH_VARARGS, "The image of the difference of the sketches of two images, of a seed."},
     {"image_state", image_state, METH_VARARGS, "The state of the sketch of an image, of a seed."},
-    {"sums_read", sums_read, METH_VARARGS, "The sketch of sums of an image, of a seed: its image and its state."},
+    {"theta_read", theta_read, METH_VARARGS, "The sketch that bytes are, of a seed: its ordered image and its state."},
+    {"sums_read", sums_read, METH_VARARGS, "The sketch of sums that bytes are, of a seed: its image and its state."},
     {"sums_total", sums_total, METH_VARARGS, "The sums of an image of a seed together."},
     {"theta_hashes", theta_hashes, METH_VARARGS, "The hashes of an image of a seed, in its order: eight bytes each, in this machine's order."},
     {"sums_entries", sums_entries, METH_VARARGS, "The hashes and sums of an image of a seed, in its order."},

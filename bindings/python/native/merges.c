@@ -5,8 +5,7 @@
 #define CALLS_OF_MERGE(name, sketch) \
     static kc_status free_##name(Handle *h) { return kc_##name##_free(&h->of_##name); } \
     static kc_status add_to_##name(Handle *h, Handle *other) { return kc_##name##_add(&h->of_##name, &other->sketch); } \
-    static kc_status add_image_to_##name(Handle *h, const void *image, size_t count) { \
-        return kc_##name##_add_image(&h->of_##name, image, count); } \
+    static kc_status add_compact_to_##name(Handle *h, Result *other) { return kc_##name##_add_compact(&h->of_##name, &other->sketch); } \
     static kc_status result_of_##name(Handle *h, Result *out) { return kc_##name##_result(&h->of_##name, &out->sketch); }
 CALLS_OF_MERGE(union, theta)
 CALLS_OF_MERGE(intersection, theta)
@@ -29,7 +28,7 @@ static kc_status reset_union(Handle *h) { return kc_union_reset(&h->of_union); }
 
 static kc_status reset_sums_union(Handle *h) { return kc_sums_union_reset(&h->of_sums_union); }
 
-#define KIND(name) .make = make_##name, .free = free_##name, .add = add_to_##name, .add_image = add_image_to_##name, .result = result_of_##name
+#define KIND(name) .make = make_##name, .free = free_##name, .add = add_to_##name, .add_compact = add_compact_to_##name, .result = result_of_##name
 const Kind union_kind = {KIND(union), .reset = reset_union};
 const Kind intersection_kind = {KIND(intersection)};
 const Kind sums_union_kind = {KIND(sums_union), .reset = reset_sums_union, .of_sums = true};
@@ -90,14 +89,15 @@ static PyObject *merge_mode(PyObject *self, void *unused) {
     return require_made((Object *)self) ? NULL : word_of(((Object *)self)->settings.mode);
 }
 
-static int add_image(Object *o, const char *image, Py_ssize_t count) {
+/* Merges the sketch of an image of so many bytes. */
+static int add_compact(Object *o, Result *sketch, Py_ssize_t count) {
     kc_status status;
     if (count < 8 * MANY) {
         if (ready(o)) return -1;
-        status = o->kind->add_image(&o->handle, image, (size_t)count);
+        status = o->kind->add_compact(&o->handle, sketch);
     } else {
         if (begin(o)) return -1;
-        WITHOUT_LOCK(status, o->kind->add_image(&o->handle, image, (size_t)count));
+        WITHOUT_LOCK(status, o->kind->add_compact(&o->handle, sketch));
         end(o);
     }
     if (status == KC_OK) return 0;
@@ -137,10 +137,11 @@ static int wait_with(Object *o, Waiting *waiting, kc_status status, size_t bytes
     return waiting->sketches == SKETCHES_AT_ONCE || waiting->bytes >= BYTES_AT_ONCE ? merge_waiting(o, waiting) : 0;
 }
 
-static int put_image(Object *o, Waiting *waiting, const char *image, Py_ssize_t count) {
+/* A copy of the sketch of an image of so many bytes. */
+static int put_compact(Object *o, Waiting *waiting, Result *sketch, Py_ssize_t count) {
     kc_status status;
-    if (count < 8 * MANY) status = kc_batch_add_image(&waiting->batch, image, (size_t)count);
-    else WITHOUT_LOCK(status, kc_batch_add_image(&waiting->batch, image, (size_t)count));
+    if (count < 8 * MANY) status = kc_batch_add_compact(&waiting->batch, &sketch->theta);
+    else WITHOUT_LOCK(status, kc_batch_add_compact(&waiting->batch, &sketch->theta));
     return wait_with(o, waiting, status, (size_t)count);
 }
 
@@ -153,17 +154,6 @@ static int put_sketch(Object *o, Waiting *waiting, Object *sketch) {
     kc_theta_state(&sketch->handle.theta, &state);
     end(sketch);
     return wait_with(o, waiting, status, 8 * (size_t)state.retained);
-}
-
-/* An image, or null with an error. The reference is the function's own now. It is merged, or waits. */
-static int add_bytes(Object *o, Waiting *waiting, PyObject *bytes) {
-    char *image;
-    Py_ssize_t count;
-    if (bytes == NULL) return -1;
-    int status = PyBytes_AsStringAndSize(bytes, &image, &count);
-    if (status == 0) status = waiting != NULL ? put_image(o, waiting, image, count) : add_image(o, image, count);
-    Py_DECREF(bytes);
-    return status;
 }
 
 /* A sketch that takes updates, which no other thread changes meanwhile. No thread that has a sketch waits for an operator. */
@@ -185,16 +175,6 @@ static int require_seed(const Object *o, const Object *sketch) {
                   (unsigned long long)o->settings.seed, (unsigned long long)sketch->settings.seed);
     refuse(KC_INVALID_ARGUMENT, reason);
     return -1;
-}
-
-/* The state of the sketch of an image. */
-static kc_status state_of_image(const Object *o, const char *image, size_t count, kc_state *state) {
-    kc_compact_sums sums = {0};
-    if (!o->kind->of_sums) return kc_image_state(image, count, o->settings.seed, state);
-    kc_status status = kc_compact_sums_read(&sums, image, count, o->settings.seed);
-    if (status == KC_OK) status = kc_compact_sums_state(&sums, state);
-    kc_compact_sums_free(&sums);
-    return status;
 }
 
 /* Warns, once, that a union to which nobody passed lg_k can't keep what a sketch retains. Returns -1 if the warning is an error. */
@@ -219,32 +199,36 @@ static int warn_of_sketch(Object *o, Object *sketch) {
     return warn_of(o, &state);
 }
 
-/* Warns of an image. One of so many hashes has more bytes than they have; others are not read twice. */
-static int warn_of_image(Object *o, PyObject *bytes) {
+/* Warns of a sketch whose lg_k is unknown. */
+static int warn_of_compact(Object *o, const Result *sketch) {
     kc_state state;
-    char *image;
-    Py_ssize_t count;
-    if (!may_warn(o) || PyBytes_AsStringAndSize(bytes, &image, &count) || count <= (Py_ssize_t)8 << o->settings.lg_k) return 0;
-    return state_of_image(o, image, (size_t)count, &state) == KC_OK ? warn_of(o, &state) : 0;
+    return may_warn(o) && state_of_result(o->kind->of_sums, sketch, &state) == KC_OK ? warn_of(o, &state) : 0;
 }
 
-/* Refuses bytes behind an image. */
-static int require_end(const Object *o, PyObject *bytes) {
-    char *image;
-    Py_ssize_t count;
+/* Merges the sketch that bytes are, or it waits. Of bytes of others it may warn. */
+static int add_image(Object *o, Waiting *waiting, PyObject *bytes, bool of_others) {
+    bool of_sums = o->kind->of_sums;
+    Result sketch = {{0}};
     kc_finding found;
+    char *image;
+    Py_ssize_t count;
     if (PyBytes_AsStringAndSize(bytes, &image, &count)) return -1;
-    kc_status status = check_end(o->kind->of_sums, image, count, o->settings.seed, &found);
-    if (status == KC_OK) return 0;
-    refuse_bytes(status, &found);
-    return -1;
+    kc_status read = read_whole(of_sums, &sketch, image, count, o->settings.seed, &found);
+    if (read != KC_OK) {
+        refuse_bytes(read, &found);
+        return -1;
+    }
+    int status = of_others ? warn_of_compact(o, &sketch) : 0;
+    if (status == 0) status = waiting != NULL ? put_compact(o, waiting, &sketch, count) : add_compact(o, &sketch, count);
+    free_result(of_sums, &sketch);
+    return status;
 }
 
-/* Adds the image of bytes, whose reference is the function's own now. */
-static int add_image_of(Object *o, Waiting *waiting, PyObject *bytes) {
-    if (bytes == NULL || (require_end(o, bytes) == 0 && warn_of_image(o, bytes) == 0)) return add_bytes(o, waiting, bytes);
-    Py_DECREF(bytes);
-    return -1;
+/* The same of bytes, or null with an error, whose reference is the function's own now. */
+static int add_bytes(Object *o, Waiting *waiting, PyObject *bytes, bool of_others) {
+    int status = bytes != NULL ? add_image(o, waiting, bytes, of_others) : -1;
+    Py_XDECREF(bytes);
+    return status;
 }
 
 static bool is_image(PyObject *it) { return PyBytes_Check(it) || PyByteArray_Check(it) || PyMemoryView_Check(it); }
@@ -262,11 +246,11 @@ static int add_any(Object *o, Waiting *waiting, PyObject *sketch) {
     bool is_updatable = PyObject_TypeCheck(sketch, o->kind->of_sums ? sums_type : theta_type);
     if (is_updatable || PyObject_TypeCheck(sketch, o->kind->of_sums ? compact_sums_type : compact_theta_type)) {
         if (require_made(other) || require_seed(o, other) || warn_of_sketch(o, other)) return -1;
-        if (!is_updatable) return add_bytes(o, waiting, Py_NewRef(other->image));
+        if (!is_updatable) return add_bytes(o, waiting, Py_NewRef(other->image), false);
         return waiting != NULL ? put_sketch(o, waiting, other) : add_sketch(o, other);
     }
     if (!is_image(sketch)) return refuse_image(sketch);
-    return add_image_of(o, waiting, PyBytes_Check(sketch) ? Py_NewRef(sketch) : PyBytes_FromObject(sketch));
+    return add_bytes(o, waiting, PyBytes_Check(sketch) ? Py_NewRef(sketch) : PyBytes_FromObject(sketch), true);
 }
 
 /* Merges those that still wait, even after an error: what comes before a refused sketch is merged. A refusal of the merge takes the

@@ -62,7 +62,7 @@ typedef struct {
     size_t entry; /* about how many bytes an entry has in an image */
     /* Of unions and intersections. */
     kc_status (*add)(Handle *, Handle *sketch);
-    kc_status (*add_image)(Handle *, const void *, size_t);
+    kc_status (*add_compact)(Handle *, Result *sketch);
     kc_status (*reset)(Handle *);
     kc_status (*result)(Handle *, Result *);
     bool of_sums; /* of the family of tuple sketches, not of theta sketches */
@@ -187,7 +187,9 @@ typedef struct {
 } Output;
 kc_status write_output(Writer writer, void *what, size_t room, bool is_long, Output *output);
 PyObject *bytes_of_output(kc_status status, Output *output);
-kc_status check_end(bool of_sums, const char *image, Py_ssize_t count, unsigned long long seed, kc_finding *found);
+kc_status read_whole(bool of_sums, Result *sketch, const char *image, Py_ssize_t count, unsigned long long seed, kc_finding *found);
+void free_result(bool of_sums, Result *sketch);
+kc_status state_of_result(bool of_sums, const Result *sketch, kc_state *state);
 PyObject *refuse_bytes(kc_status status, const kc_finding *it);
 PyObject *result_of_compact(kc_compact *made);
 PyObject *result_of_sums(kc_compact_sums *made);

@@ -73,11 +73,27 @@ def test_bytes_behind_an_image(family, count):
                 for it in (merged, before):
                     it.update(image)
                 for some in (data, [data], [image, data]):
-                    with pytest.raises(InvalidDataError):
+                    with pytest.raises(InvalidDataError, match="bytes follow the image$"):
                         merged.update(some)
                 before.update(image)
                 assert merged.result().to_bytes() == before.result().to_bytes()
     assert compact.from_bytes(image).to_bytes() == image and kind.from_bytes(bytearray(image)).to_bytes() == image
+
+
+@pytest.mark.parametrize("family", MERGES)
+def test_flaws_are_named(family):
+    """By each call that reads bytes, also in a list."""
+    kind, merges = MERGES[family]
+    foreign = kind(seed=1)
+    foreign.update("ann")
+    calls = [kind.from_bytes, type(kind().compact()).from_bytes]
+    for merge in merges:
+        calls += [merge().update, lambda data, merge=merge: merge().update([kind(), data])]
+    others = TupleSums if kind is ThetaSketch else ThetaSketch
+    for data, flaw in ((foreign.to_bytes(), "another seed hash"), (others().to_bytes(), "another family .*found: "), (b"", "fewer than eight bytes")):
+        for call in calls:
+            with pytest.raises(InvalidDataError, match=flaw):
+                call(data)
 
 
 def test_random_bytes():
