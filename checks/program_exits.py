@@ -4,10 +4,12 @@ parts, with outputs that can't be written, on a terminal, with little memory, an
 builds them, or rt run in their folders; DISTINCT_PROGRAM and SKETCHTOOL_PROGRAM name others.
 
 checks/program_exits.py PART.. runs these parts alone: sketchtool, distinct, paths, order, waiting, long, large, terminal, output,
-progress, words. Answers that aren't stated here are those of checks/model_distinct.py.
+progress, words, chosen. Answers that aren't stated here are those of checks/model_distinct.py. The last part prints what inputs
+cost that somebody has chosen, beside random ones, and fails if they cost more than is stated here.
 """
 import os
 import pty
+import random
 import resource
 import select
 import shutil
@@ -20,6 +22,7 @@ import time
 
 sys.dont_write_bytecode = True
 import model_distinct
+import model_hash
 from built_programs import PROGRAMS, check, failed, require_programs
 
 
@@ -146,6 +149,96 @@ def check_chosen_order(place):
         check("distinct, hashes that descend in a table", "no answer in 30 seconds", "one in a second")
 
 
+def processor_time(arguments, folder):
+    """The seconds of processor time that distinct takes, the least of three runs; it has to succeed."""
+    least = float("inf")
+    for _ in range(3):
+        before = resource.getrusage(resource.RUSAGE_CHILDREN)
+        check(f"distinct {' '.join(arguments)[:60]}, its status", run("distinct", *arguments, seconds=60, folder=folder)[0], 0)
+        after = resource.getrusage(resource.RUSAGE_CHILDREN)
+        least = min(least, after.ru_utime + after.ru_stime - before.ru_utime - before.ru_stime)
+    return least
+
+
+def on_one_path(count):
+    """Hashes that share a path in every table, and descend, so that none of them is above the theta of those before it."""
+    return [(n << 40) | 0xABCDEF for n in range(count, 0, -1)]
+
+
+def at_random(count):
+    chance = random.Random(1)
+    return [chance.randrange(1, model_distinct.MAX_THETA) for _ in range(count)]
+
+
+def keys_with(hashes, seed):
+    """A key of 16 bytes for each hash, without a tab or a newline."""
+    chance = random.Random(2)
+    for wanted in hashes:
+        key = b"\n"
+        while {9, 10} & set(key):
+            key = model_hash.bytes_with(wanted, seed, chance.getrandbits(64))
+        yield key
+
+
+def chosen_inputs(folder):
+    """Kinds of inputs whose hashes, keys or names are chosen: a text, the arguments for the chosen input and for a random one of the
+    same size, and at most how many times as long the chosen one takes, or None and at most how many seconds."""
+
+    def file(name, data):
+        with open(os.path.join(folder, name), "wb") as out:
+            out.write(data)
+        return name
+
+    def both(name, make, count):
+        """The files that are made of chosen and of random hashes."""
+        made = [make(hashes) for hashes in (on_one_path(count), at_random(count))]
+        return [[file(f"{name}.{kind}.{at}", data) for at, data in enumerate(files)] for kind, files in zip("cr", made)]
+
+    def images(count, parts):
+        """Unordered images that share out these hashes."""
+        return lambda hashes: [image_of(hashes[at::parts], False) for at in range(parts)]
+
+    kinds = []
+
+    def add(text, words, files, times, seconds=None):
+        kinds.append((text, [*words, *files[0]], [*words, *files[1]], times, seconds))
+
+    def lines(hashes):
+        return [b"".join(key + b"\n" for key in keys_with(hashes, model_distinct.DEFAULT_SEED))]
+
+    def groups(hashes):
+        """A line for each name, whose hash has the seed 0."""
+        return b"".join(b"%b\t%d\n" % (name, number) for number, name in enumerate(keys_with(hashes, 0)))
+
+    keys = both("keys", lines, 30_000)
+    for lg_k, seconds in ((12, 0.5), (16, 3), (20, 3)):
+        add(f"`count --lg-k {lg_k}` of 30,000 keys", ["count", "--lg-k", str(lg_k)], keys, None, seconds)
+    two = both("two", images(200_000, 2), 200_000)
+    for lg_k, seconds in ((12, 0.5), (20, 2)):
+        add(f"`union --lg-k {lg_k}` of two images of 100,000 hashes", ["union", "--lg-k", str(lg_k)], two, None, seconds)
+    many = both("many", images(30_000, 300), 30_000)
+    for lg_k, seconds in ((12, 1), (20, 4)):
+        add(f"`union --lg-k {lg_k}` of 300 images of 100 hashes", ["union", "--lg-k", str(lg_k)], many, None, seconds)
+    half = both("half", lambda hashes: [image_of(hashes[: 2 * len(hashes) // 3], False), image_of(hashes[len(hashes) // 3 :], False)], 300_000)
+    for command in ("meet", "minus"):
+        add(f"`{command}` of two images of 200,000 hashes", [command], half, 5)
+    names = [[file("names.c", groups([1] * 30_000))], [file("names.r", groups(at_random(30_000)))]]
+    add("`count --by 1` of 30,000 names", ["count", "--by", "1", "--field", "2"], names, 5)
+    return kinds
+
+
+def check_chosen_inputs(place):
+    """Inputs whose hashes, keys or names are chosen cost at most so many times the processor time of random ones, or so much."""
+    folder = os.path.join(place, "chosen")
+    os.mkdir(folder)
+    for text, chosen, others, times, seconds in chosen_inputs(folder):
+        found, usual = processor_time(chosen, folder), processor_time(others, folder)
+        print(f"program_exits: {text}: {found:.3f} s if they are chosen, {usual:.3f} s if random, ratio {found / usual:.1f}")
+        # A run takes a millisecond or two before it reads a line.
+        allowed = seconds or times * max(usual, 0.005)
+        check(f"distinct, {text}, chosen: {found:.3f} s, at most {allowed:.3f}", found <= allowed, True)
+
+
 def check_waiting(place):
     """Unions of 60 images of 2^17 entries. At most two of them wait in memory at a time; all take 60 MiB, or 120 with sums."""
     count = 1 << 17
@@ -257,6 +350,7 @@ def check_terminal(place):
     output = os.path.join(place, "output")
     check("distinct union --output on a terminal", on_terminal("union", f"--output={output}", theta), (0, b"", b""))
     check("distinct count to a terminal", on_terminal("count", text), (0, b"1\n", b""))
+    check("distinct similarity to a terminal", on_terminal("similarity", theta, theta), (0, b"1.000000\n", b""))
     waits = b"distinct: reading from the terminal; press Ctrl-D to finish\n"
     status, shown, found = on_terminal("count", typed=b"ann\nbob\n\4")
     check("distinct count of a terminal", (status, shown.endswith(b"2\n"), found), (0, True, waits))
@@ -341,6 +435,7 @@ def main():
             "output": lambda: check_failed_output(place),
             "progress": check_progress,
             "words": check_words,
+            "chosen": lambda: check_chosen_inputs(place),
         }
         if unknown := [word for word in sys.argv[1:] if word not in parts]:
             sys.exit(f"program_exits: no part has the name {' '.join(unknown)}: {', '.join(parts)}")
