@@ -46,7 +46,8 @@ IsWritten {X} at writes old new = (x : X) → slot old at ≡ Some x → new ≡
 
 -- what putting an entry into slots of these sizes makes of them: the slots, their new sizes and what is retained by them, what
 -- is counted, and what stays if memory is refused
-pub record Puts {S X E : Type 0} (key : X → ℕ) (content : S → Option X) (sizes : Sizes) (entry : X) (old : List S) (before : Counts) (result : Result Sizes E) (new : List S) (done : Counts) : Type 0 where
+pub record Puts {S X E : Type 0} (key : X → ℕ) (content : S → Option X) (sizes : Sizes) (entry : X) (old : List S) (before : Counts)
+    (result : Result Sizes E) (new : List S) (done : Counts) : Type 0 where
   pub laid_out : IfOk result (λ s. IsLaidOut key s.lg_cur (map content new))
   pub counted : IfOk result (λ s. s.count ≡ length (entries_in content new))
   pub after : IfOk result (λ s. kept_in key content new s.theta ≡ after_put key sizes (slot_map key content old) entry)

@@ -87,7 +87,8 @@ value_or_empty None = Empty
 value_or_empty (Some v) = v
 
 -- a union merged a part: its value, that its settings stayed, and that it has all below its theta of one whole map more
-pub record JoinsPart {X V : Type 0} (key : X → ℕ) (f : Family (Fold X) V) (before after : List (Fold X) → Type 0) (old new : Union X (Unit {0})) (v : Sketch (Fold X)) : Type 0 where
+pub record JoinsPart {X V : Type 0} (key : X → ℕ) (f : Family (Fold X) V) (before after : List (Fold X) → Type 0)
+    (old new : Union X (Unit {0})) (v : Sketch (Fold X)) : Type 0 where
   pub value : Joins key f old new v
   pub made_with : new ≡ record old { empty = new.empty; content = new.content }
   pub holds : HoldsMore f before after v
