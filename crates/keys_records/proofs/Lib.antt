@@ -1,0 +1,5 @@
+mod Passing
+mod Bytes
+mod Spelled
+mod Lines
+mod Parsed

@@ -1,0 +1,4 @@
+pub mod Fields
+pub mod Steps
+pub mod Stages
+pub mod Spelling
