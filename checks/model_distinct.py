@@ -25,21 +25,21 @@ MAX_THETA = 2**63 - 1
 DEFAULT_SEED = 9001
 M64 = 2**64 - 1
 
-LINES = "-C --lg-k --field --separator --seed --seed-file --files0-from --part --progress "
+LINES = "-C --lg-k --field --separator --csv --header --seed --seed-file --files0-from --part --progress "
 OPTIONS = {
     "count": LINES + "--by --hex --groups --sort --min --top --bounds --human --tsv --json",
     "sketch": LINES + "--by --value --summary --visits --hex --output --output-dir --force",
     "union": "-C --lg-k --seed --seed-file --files0-from --expect --hex --groups --sums --summary --output",
-    "meet": "-C --seed --seed-file --files0-from --expect --hex --output",
-    "minus": "-C --seed --seed-file --hex --output",
-    "show": "-C --seed --seed-file --files0-from --hex --bounds --tsv --json",
+    "meet": "-C --seed --seed-file --files0-from --expect --hex --groups --output",
+    "minus": "-C --seed --seed-file --hex --groups --output",
+    "show": "-C --seed --seed-file --files0-from --hex --groups --bounds --tsv --json",
     "eval": "-C --lg-k --seed --seed-file --keys --sums --summary --field --separator --bounds --tsv --json --hex --output --force",
-    "visits": "-C --lg-k --field --separator --sums --hex --seed --seed-file --files0-from --part --bounds --tsv --json",
+    "visits": "-C --lg-k --field --separator --csv --header --sums --hex --seed --seed-file --files0-from --part --bounds --tsv --json",
     "similarity": "-C --seed --seed-file --hex --bounds --tsv --json",
-    "sum": "-C --value --lg-k --field --separator --seed --seed-file --files0-from --part --tsv --json",
+    "sum": "-C --value --lg-k --field --separator --csv --header --seed --seed-file --files0-from --part --tsv --json",
 }
 OPTIONS = {command: f"{options} --quiet" + " --error" * (command in ("count", "sketch", "visits", "sum")) for command, options in OPTIONS.items()}
-FLAGS = ("--hex", "--groups", "--sums", "--visits", "--progress", "--keys", "--force", "--quiet", "--human")
+FLAGS = ("--hex", "--groups", "--sums", "--visits", "--progress", "--keys", "--force", "--quiet", "--human", "--csv", "--header")
 # Short names of options with a value, which may be attached to them.
 SHORT = {"-k": "--lg-k", "-f": "--field", "-d": "--separator", "-o": "--output"}
 # How the numbers of a key are combined.
@@ -342,6 +342,14 @@ def flaw_of(image, own_hash):
     if length < len(image):
         return "has bytes after its image: a file has one image, or with --hex one per line"
     return damaged("its hashes are not valid")
+
+
+def asked_hash(image, own_hash):
+    """The seed hash under which an image is read if its seed may be any: its own, or this one if it has none, or 0, which no seed has."""
+    has_preamble = 8 <= len(image) and image[2] == 3 and image[1] in (2, 3) and 1 <= image[0] <= 3
+    if not has_preamble or preamble_length(image) > len(image) or is_empty(image):
+        return own_hash
+    return struct.unpack_from("<H", image, 6)[0] or own_hash
 
 
 def sketch_of_image(image, own_hash):
@@ -684,7 +692,7 @@ def read_arguments(words):
     if not words or words[0] not in OPTIONS:
         raise Fault("no command")
     command = words.pop(0)
-    options = {"--lg-k": 16 if command in ("count", "visits") else 12, "seed": ("--seed", DEFAULT_SEED), "form": None}
+    options = {"--lg-k": 16 if command in ("count", "visits") else 26 if command in ("show", "meet", "minus") else 12, "seed": ("--seed", DEFAULT_SEED), "form": None}
     files = []
     while words and words[0] != "--":
         if words[0] in ("--help", "-h"):
@@ -700,8 +708,12 @@ def read_arguments(words):
         raise Fault("--field without --keys")
     if command == "sum" and "--value" not in options:
         raise Fault("sum without --value")
-    if "--separator" in options and not {"--field", "--by", "--value"} & options.keys():
-        raise Fault("--separator without --field, --by and --value")
+    if "--separator" in options and not {"--field", "--by", "--value", "--csv"} & options.keys():
+        raise Fault("--separator without --field, --by, --value and --csv")
+    if "--csv" in options and {"--part", "--groups", "--sums", "--progress"} & options.keys():
+        raise Fault("--csv with --part, --progress, or images")
+    if "--header" in options and "--csv" not in options:
+        raise Fault("--header without --csv")
     if {"--sums", "--keys"} <= options.keys():
         raise Fault("--sums and --keys")
     if {"--value", "--visits"} <= options.keys():
@@ -737,9 +749,10 @@ def read_arguments(words):
     read = set(names_of(steps_of(words[0]))) if command == "eval" else words
     if [options["seed"][1], options.get("--files0-from"), *read].count("-") > 1:
         raise Fault("standard input twice")
-    for option in ("--field", "--by", "--sort", "--min", "--top", "--bounds", "--hex", "--groups", "--sums", "--keys", "--output", "--output-dir", "--expect", "--part"):
+    for option in ("--field", "--by", "--sort", "--min", "--top", "--bounds", "--hex", "--groups", "--sums", "--keys", "--output", "--output-dir", "--expect", "--part", "--csv"):
         options.setdefault(option)
-    options["--separator"] = options.get("--separator", "\t").encode()
+    options["between fields"] = options.get("--separator", ",").encode()
+    options["--separator"] = b"\x1f" if options["--csv"] else options.get("--separator", "\t").encode()
     options["dirs"] = dirs + ([options["-C"]] if "-C" in options else [])
     return command, options, words
 
@@ -772,6 +785,37 @@ def part_of(text, index, parts):
         lines += [line] * (begin <= place < end)
         place += len(line)
     return b"".join(lines)
+
+
+class InRecords:
+    """Files in which each record of CSV is a line: of the fields that options use, or of all, with the byte 31 between two."""
+
+    def __init__(self, files, options):
+        self.files, self.options = files, options
+
+    def __contains__(self, name):
+        return name in self.files
+
+    def __getitem__(self, name):
+        separator = re.escape(self.options["between fields"])
+        field = rb'"(?:[^"]|"")*"|[^"\r\n' + separator + rb"]*"
+        record = rb"(?:%s)(?:%s(?:%s))*" % (field, separator, field)
+        used = {self.options.get(it) for it in ("--field", "--by", "--value")} if self.options["--field"] else None
+        text, lines = self.files[name], []
+        if not re.fullmatch(rb"(?:%s\r?\n)*(?:%s)?" % (record, record), text):
+            raise Uncomputed("what is wrong with records")
+        for whole, end in re.findall(rb"(%s)(\r?\n|\Z)" % record, text):
+            if whole or end:
+                fields = re.findall(rb"(?:\A|%s)(%s)" % (separator, field), whole)
+                values = [it[1:-1].replace(b'""', b'"') if it.startswith(b'"') else it for it in fields]
+                lines.append(b"\x1f".join(it if used is None or number in used else b"" for number, it in enumerate(values, 1)))
+                if b"\n" in lines[-1]:
+                    raise Uncomputed("a line end in a field")
+        lines = lines[1:] if "--header" in self.options else lines
+        return b"".join(line + b"\n" for line in lines)
+
+    def __setitem__(self, name, text):
+        self.files[name] = text
 
 
 class InPart:
@@ -826,14 +870,18 @@ def advice(command, image, of_sums):
 
 
 def sketches_in(command, files, names, hex_lines, own_hash, of_sums=False, places=None, passed=None):
-    """The name and the sketch of each image. Where it is goes to places. Failures go to those that are passed over, if these are given."""
+    """The name and the sketch of each image. Where it is goes to places. If there is a list of those that are passed over, failures go to
+    it, and images of other seeds are read, too, with a warning."""
     for place, name, image in images_in(files, names, hex_lines):
         try:
             if places is not None:
                 places.append(place)
             if isinstance(image, Failure):
                 raise image
-            sketch = (sums_of_image if of_sums else sketch_of_image)(image, own_hash)
+            asked = own_hash if passed is None else asked_hash(image, own_hash)
+            sketch = (sums_of_image if of_sums else sketch_of_image)(image, asked)
+            if asked != own_hash:
+                passed.append(f"warning: {place.removesuffix(': ').strip()} was made with another seed: pass that --seed to combine it")
         except Failure as flaw:
             added = "" if hex_lines or "hexadecimal" in str(flaw) else advice(command, image, of_sums)
             failure = Failure(f"{place}{flaw}{added}")
@@ -941,6 +989,14 @@ def united_groups(files, names, options, own_hash, messages):
     return [(name, unite(2**lg_k, groups[name])) for name in sorted(groups)]
 
 
+def joined_groups(command, files):
+    """The name and the intersection or the difference of each group of the first file, the others of which are looked up."""
+    first, *others = files
+    if command == "meet":
+        return [(name, meet([it, *(file[name] for file in others)])) for name, it in first.items() if all(name in file for file in others)]
+    return [(name, minus(it, others[0].get(name))) for name, it in first.items()]
+
+
 def written(answer, files, options):
     """The answer, or nothing if it is written to the file that `--output` names."""
     if options["--output"] is None:
@@ -955,7 +1011,7 @@ def run(words, files, messages):
     for dir in options["dirs"]:
         files = InFolder(files, dir)
     hex_lines = options["--hex"]
-    if command in ("minus", "similarity") and not hex_lines and len(names) != 2:
+    if (command in ("minus", "similarity") and not hex_lines or command == "minus" and options["--groups"]) and len(names) != 2:
         raise Fault("not two files")
     reads_images = command not in ("count", "sketch", "eval", "visits", "sum") or options["--groups"] or command == "visits" and options["--sums"]
     if reads_images and not names and "--files0-from" not in options:
@@ -979,6 +1035,8 @@ def run(words, files, messages):
         look_at(command, [it for it in read if not part or it != "-" and shows_start(len(text_of(files, it)), *part)], files, options, messages)
     if part:
         files = InPart(files, part)
+    if options["--csv"]:
+        files = InRecords(files, options)
     if command == "visits" and not options["--sums"]:
         sketch, counts = visits_of([text_of(files, name) for name in names], options, seed)
         return printed_ranges(ranges_of(sketch, counts, options["--bounds"] or 2), options).encode()
@@ -991,9 +1049,15 @@ def run(words, files, messages):
         image = image_of(sums_of([(name, text_of(files, name)) for name in names], options, seed), seed_hash(seed), True)
         return written(image.hex().encode() + b"\n" if hex_lines else image, files, options)
     if options["--groups"]:
-        groups = united_groups(files, names, options, seed_hash(seed), messages)
+        if command in ("meet", "minus"):
+            groups = joined_groups(command, [dict(united_groups(files, [name], options, seed_hash(seed), messages)) for name in names])
+        else:
+            groups = united_groups(files, names, options, seed_hash(seed), messages)
         if command == "count":
             return printed_counts(groups, options)
+        if command == "show":
+            plain = [(name if options["form"] else name.decode(errors="replace"), it) for name, it in groups]
+            return printed([(name, report_of(it, options["--bounds"] or 2)) for name, it in plain], options, command).encode()
         return written(b"".join(group_line(name, image_of(it, seed_hash(seed))) for name, it in groups), files, options)
     z = options["--bounds"] or 2
     if options["--by"]:
@@ -1090,6 +1154,12 @@ def status_of(messages):
     return int(any(isinstance(it, Failure) for it in messages))
 
 
+def in_turn(messages, arguments):
+    """Messages as they are printed: remarks, unless the program is to be quiet, and then failures."""
+    remarks = [] if {"-q", "--quiet"} & set(arguments) else [it for it in messages if not isinstance(it, Failure)]
+    return remarks + [it for it in messages if isinstance(it, Failure)]
+
+
 def wrong_in(case, data):
     """What differs in a case, if anything. These are the files of the folder in which it runs."""
     files = data | case_files(case.before) | {"-": case.input}
@@ -1103,15 +1173,14 @@ def wrong_in(case, data):
     except Fault:
         status, messages = 2, None
     except Failure as failure:
-        status, messages = 1, [*messages, str(failure)]
+        status, messages = 1, [*messages, failure]
     if any("/" in it for it in files if not it.startswith("@")):
         raise Uncomputed("a file in another folder")
     if status != case.status:
         return "status"
     if answer != case.output:
         return "answer"
-    quiet = status == 0 and {"-q", "--quiet"} & set(case.arguments)
-    said = "".join(f"distinct: {it}\n" for it in messages or [] if not quiet)
+    said = "".join(f"distinct: {it}\n" for it in in_turn(messages or [], case.arguments))
     if messages is not None and case.messages is not None and said.encode() != case.messages:
         return "message"
     after = {name: text for name, text in files.items() if name.startswith("@")}
@@ -1198,9 +1267,8 @@ def main():
     except Fault as fault:
         sys.exit(print(f"model_distinct: wrong arguments: {fault}", file=sys.stderr) or 2)
     except (Failure, Uncomputed) as failure:
-        messages.append(str(failure))
         sys.exit(print(f"distinct: {failure}", file=sys.stderr) or 1)
-    for it in messages:
+    for it in in_turn(messages, sys.argv[1:]):
         print(f"distinct: {it}", file=sys.stderr)
     sys.exit(status_of(messages))
 

@@ -22,7 +22,7 @@ use distinct_arguments::{
     read_arguments, reads_texts, word_of,
 };
 use distinct_commands::{Operands, group_files, only_expression, perform};
-use distinct_inputs::{Files, Inputs, files_in_list, seed_of};
+use distinct_inputs::{Files, Inputs, files_in_list, record_form, seed_of};
 use distinct_messages::{Failure, passed_status};
 use keys_lines::Key;
 use sketch_base::DEFAULT_UPDATE_SEED;
@@ -223,6 +223,7 @@ fn files_of<'a>(
     Files::named(rt, names, or_standard)
         .watched(reader, options.quiet)
         .in_part(options.part)
+        .in_records(record_form(options))
 }
 
 /// Fails if the bytes of an image would go to a terminal.

@@ -26,6 +26,8 @@ pub once : (option : OptionName) → length (filter (has_row option) rows) ≡ 1
 unfolding rows
 once o.Field = refl
 once o.Separator = refl
+once o.Csv = refl
+once o.Header = refl
 once o.Value = refl
 once o.Summary = refl
 once o.Visits = refl
@@ -60,6 +62,8 @@ pub named : (option : OptionName) → option_of (name_of option) ≡ Some option
 unfolding rows
 named o.Field = refl
 named o.Separator = refl
+named o.Csv = refl
+named o.Header = refl
 named o.Value = refl
 named o.Summary = refl
 named o.Visits = refl
@@ -93,6 +97,8 @@ pub short_named : (option : OptionName) → IfSome (short_of option) (λ name. o
 unfolding rows
 short_named o.Field = refl
 short_named o.Separator = refl
+short_named o.Csv = tt
+short_named o.Header = tt
 short_named o.Value = tt
 short_named o.Summary = tt
 short_named o.Visits = tt
@@ -179,6 +185,8 @@ listed command.Similarity = listed_similarity
 last_number : (options : OptionValues) (option : OptionName) (m n : ℕ) → set_number (set_number options option m) option n ≡ set_number options option n
 last_number options o.Field m n = refl
 last_number options o.Separator m n = refl
+last_number options o.Csv m n = refl
+last_number options o.Header m n = refl
 last_number options o.Value m n = refl
 last_number options o.Summary m n = refl
 last_number options o.Visits m n = refl
@@ -211,6 +219,8 @@ last_number options o.Quiet m n = refl
 last_text : (options : OptionValues) (option : OptionName) (m n : List ℕ) → set_text (set_text options option m) option n ≡ set_text options option n
 last_text options o.Field m n = refl
 last_text options o.Separator m n = refl
+last_text options o.Csv m n = refl
+last_text options o.Header m n = refl
 last_text options o.Value m n = refl
 last_text options o.Summary m n = refl
 last_text options o.Visits m n = refl

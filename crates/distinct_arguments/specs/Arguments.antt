@@ -107,9 +107,9 @@ abbrev pub lacks_value : Command → OptionValues → Bool
 lacks_value Sum options = is_none options.value
 lacks_value _ options = false
 
--- whether an option chooses a field
+-- whether an option chooses a field, or fields are those of records
 abbrev pub chooses_field : OptionValues → Bool
-chooses_field options = is_some options.field || is_some options.by || is_some options.value
+chooses_field options = options.csv || is_some options.field || is_some options.by || is_some options.value
 
 -- whether options say where images of groups go: as digits to standard output, or to files of their own
 abbrev pub places_groups : OptionValues → Bool

@@ -12,7 +12,8 @@ use Rattle.distinct_arguments.specs.Words.{number_of, byte_of, deviations_of, or
 use Rattle.distinct_arguments.specs.Precision.{size_of}
 use Rattle.distinct_arguments.specs.Shares.{ShareNumbers, numbers_of, share_of}
 use Rattle.distinct_arguments.specs.declared.commands.Command.{Command}
-use Rattle.distinct_arguments.specs.declared.commands.Command.TheVariants.{Count, Visits as VisitsCommand}
+use Rattle.distinct_arguments.specs.declared.commands.Command.TheVariants.{Combine, Count, Show, Visits as VisitsCommand}
+use Rattle.distinct_arguments.specs.declared.commands.Operator.TheVariants.{Meet, Minus}
 use Rattle.distinct_arguments.specs.declared.options.Form.{Form}
 use Rattle.distinct_arguments.specs.declared.options.Order.{Order}
 use Rattle.distinct_arguments.specs.declared.options.Mode.{Mode}
@@ -22,7 +23,7 @@ use Rattle.distinct_arguments.specs.declared.options.Seed.{Seed as SeedOf}
 use Rattle.distinct_arguments.specs.declared.options.Seed.TheVariants.{Number as NumberSeed, File as FileSeed}
 use Rattle.distinct_arguments.specs.declared.options.Options.{Options}
 use Rattle.distinct_arguments.specs.declared.table.OptionName.{OptionName}
-use Rattle.distinct_arguments.specs.declared.table.OptionName.TheVariants.{Field, Separator, Value, Summary, Visits, Keys, Sums}
+use Rattle.distinct_arguments.specs.declared.table.OptionName.TheVariants.{Field, Separator, Csv, Header, Value, Summary, Visits, Keys, Sums}
 use Rattle.distinct_arguments.specs.declared.table.OptionName.TheVariants.{Hex, FileList, Part, Dir, LgK, Error, Seed, SeedFile, By}
 use Rattle.distinct_arguments.specs.declared.table.OptionName.TheVariants.{Groups, Expect, Sort, Min, Top, Progress, Bounds, Tsv}
 use Rattle.distinct_arguments.specs.declared.table.OptionName.TheVariants.{Json, Human, OutputDir, Output, Force, Quiet}
@@ -40,6 +41,8 @@ pub record OptionValues : Type 0 where
   pub lg_k : ℕ
   pub field : Option ℕ
   pub separator : Option ℕ
+  pub csv : Bool
+  pub header : Bool
   pub by : Option ℕ
   pub sort : Option Order
   pub least : Option ℕ
@@ -65,10 +68,14 @@ pub record OptionValues : Type 0 where
   pub force : Bool
   pub quiet : Bool
 
--- the default of `--lg-k`: 16 of commands that print counts, whose error is then within 0.4 %, and 12 of the others
+-- the default of `--lg-k`: 16 of commands that print counts, whose error is then within 0.4 %, and 12 of the others; 26 of those
+-- without this option, whose unions of images drop no hash up to 2^26
 abbrev pub default_lg_k : Command → ℕ
 default_lg_k Count = 16
 default_lg_k VisitsCommand = 16
+default_lg_k Show = 26
+default_lg_k (Combine Meet) = 26
+default_lg_k (Combine Minus) = 26
 default_lg_k _ = 12
 
 -- the defaults
@@ -77,6 +84,8 @@ default_options command = record {
   lg_k = default_lg_k command;
   field = None;
   separator = None;
+  csv = false;
+  header = false;
   by = None;
   sort = None;
   least = None;
@@ -103,20 +112,21 @@ default_options command = record {
   quiet = false;
 }
 
--- the key that options choose: the field of their number, the first being 1, with a tab (9) as the default separator,
--- or the whole line
+-- the byte between the fields of a line: by default a tab (9), and the unit separator (31) in the lines that records are read as
+abbrev pub between : OptionValues → ℕ
+between options = if options.csv then 31 else unwrap_or options.separator 9
+
+-- the key that options choose: the field of their number, the first being 1, or the whole line
 abbrev pub chosen_key : OptionValues → Key
-chosen_key options = option_map_or (λ number. FieldKey (number - 1) (unwrap_or options.separator 9)) options.field Line
+chosen_key options = option_map_or (λ number. FieldKey (number - 1) (between options)) options.field Line
 
--- the key by which options group lines, if they do: the field of its number, the first being 1, with a tab (9) as the
--- default separator
+-- the key by which options group lines, if they do: the field of its number, the first being 1
 abbrev pub chosen_group : OptionValues → Option Key
-chosen_group options = option_map (λ number. FieldKey (number - 1) (unwrap_or options.separator 9)) options.by
+chosen_group options = option_map (λ number. FieldKey (number - 1) (between options)) options.by
 
--- the part of a line that has its number, if options choose one: the field of its number, the first being 1, with a tab
--- (9) as the default separator
+-- the part of a line that has its number, if options choose one: the field of its number, the first being 1
 abbrev pub chosen_value : OptionValues → Option Key
-chosen_value options = option_map (λ number. FieldKey (number - 1) (unwrap_or options.separator 9)) options.value
+chosen_value options = option_map (λ number. FieldKey (number - 1) (between options)) options.value
 
 -- how the numbers of a key are combined: by default they are added
 abbrev pub chosen_mode : OptionValues → Mode
@@ -160,6 +170,8 @@ is_json _ = false
 abbrev pub is_given : OptionValues → OptionName → Bool
 is_given options Field = is_some options.field
 is_given options Separator = is_some options.separator
+is_given options Csv = options.csv
+is_given options Header = options.header
 is_given options Value = is_some options.value
 is_given options Summary = is_some options.summary
 is_given options Visits = options.visits
@@ -192,6 +204,8 @@ is_given options Quiet = options.quiet
 -- the options after a flag
 abbrev pub set_flag : OptionValues → OptionName → OptionValues
 set_flag options Progress = record options { progress = true }
+set_flag options Csv = record options { csv = true }
+set_flag options Header = record options { header = true }
 set_flag options Hex = record options { hex = true }
 set_flag options Keys = record options { keys = true }
 set_flag options Visits = record options { visits = true }
@@ -288,6 +302,8 @@ options_of o = record {
   lg_k = o.lg_k;
   field = o.field;
   separator = o.separator;
+  csv = o.csv;
+  header = o.header;
   by = o.by;
   sort = o.sort;
   least = o.least;

@@ -27,7 +27,7 @@ pub enum Fault {
     NotOneExpression,
     /// `sum` has no `--value`.
     SumNeedsValue,
-    /// There is `--separator` without `--field`, `--by` and `--value`.
+    /// There is `--separator` without `--field`, `--by`, `--value` and `--csv`.
     SeparatorNeedsField,
     /// `sketch` has `--by` without `--hex` and without `--output-dir`.
     GroupsNeedOutput,
@@ -172,7 +172,10 @@ impl fmt::Display for Fault {
             Fault::SumNeedsValue => {
                 write!(f, "sum needs --value M, the field that has the numbers")
             }
-            Fault::SeparatorNeedsField => write!(f, "--separator needs --field, --by or --value"),
+            Fault::SeparatorNeedsField => write!(
+                f,
+                "--separator needs --field, --by, --value or --csv"
+            ),
             Fault::GroupsNeedOutput => write!(f, "--by needs --hex or --output-dir"),
             Fault::NeedsGroups(option) => write!(f, "{} needs --by or --groups", name_of(*option)),
             Fault::Needs(option, other) => write!(

@@ -137,11 +137,11 @@ fn lacks_value(command: Command, options: &Options<'_>) -> bool
     }
 }
 
-/// Whether an option chooses a field.
+/// Whether an option chooses a field, or fields are those of records.
 fn chooses_field(options: &Options<'_>) -> bool
     ensures { result ≡ chooses_field (options_of options.now) }
 {
-    options.field.is_some() || options.by.is_some() || options.value.is_some()
+    options.csv || options.field.is_some() || options.by.is_some() || options.value.is_some()
 }
 
 /// Whether options say where images of groups go.

@@ -39,6 +39,11 @@ Read:
                           without a separator is its own key, and a line of fewer fields has the
                           empty key
   -d, --separator C       the byte between fields, with --field or --by; default a tab
+      --csv               the files have records of CSV (RFC 4180), not lines: a field between
+                          quotes may have separators, quotes and line ends in it, but none of the
+                          last in a field that is used. The separator is a comma then. Not with
+                          --part or --groups
+      --header            with --csv: pass over the first record of each file
       --hex               images in hexadecimal, one per line. Needs --groups
       --files0-from FILE  read the names of the files from FILE, each ended by a NUL byte
       --part I/N          read part I of N of each file's lines, I from 1 to N. A line is in the
@@ -87,6 +92,11 @@ distinct sketch [OPTION..] [FILE..]: writes the sketch of the files' lines as an
 Read:
   -f, --field N           use field N as a line's key, counted from 1 as in cut -f N
   -d, --separator C       the byte between fields, with --field, --by or --value; default a tab
+      --csv               the files have records of CSV (RFC 4180), not lines: a field between
+                          quotes may have separators, quotes and line ends in it, but none of the
+                          last in a field that is used. The separator is a comma then. Not with
+                          --part
+      --header            with --csv: pass over the first record of each file
       --value M           write an image of sums: for each key, the sum of field M (see distinct
                           sum --help). Not with --by or --progress
       --summary MODE      with --value: keep for each key the sum of its numbers, the least or the
@@ -166,6 +176,9 @@ Read:
 Count:
       --seed N            the seed of the images, from 0 to 2^64 - 1; default 9001
       --seed-file FILE    read the seed from FILE, which keeps it out of the process list
+      --groups            with --hex: write the intersection for each group that all files have. A
+                          line has the name of a group, a tab and an image, as sketch writes lines
+                          of groups; images of a group in one file are united first
       --expect N          fail unless there are exactly N images; N from 1 to 2^32 - 1
 
 Print:
@@ -175,6 +188,7 @@ Print:
 Examples:
   distinct meet -o both.theta mon.theta tue.theta      the lines of both days
   distinct meet mon.theta tue.theta | distinct show -  how many these are
+  distinct meet --hex --groups mon.groups tue.groups   those of each group
 ";
 
 const MINUS: &str = "\
@@ -188,6 +202,9 @@ Read:
 Count:
       --seed N            the seed of the images, from 0 to 2^64 - 1; default 9001
       --seed-file FILE    read the seed from FILE, which keeps it out of the process list
+      --groups            with --hex: write the difference for each group of the first file. A
+                          line has the name of a group, a tab and an image, as sketch writes lines
+                          of groups; images of a group in one file are united first
 
 Print:
   -o, --output FILE       write to FILE, all or nothing, instead of standard output
@@ -196,11 +213,15 @@ Print:
 Examples:
   distinct minus -o new.theta tue.theta mon.theta       the lines that are new on Tuesday
   distinct minus tue.theta mon.theta | distinct show -  how many these are
+  distinct minus --hex --groups tue.groups mon.groups   those of each group
 ";
 
 const SHOW: &str = "\
 distinct show [OPTION..] IMAGE..: prints one line per image: how many distinct lines it saw,
 exactly or estimated, how many hashes it retains, and its theta
+
+  Images of other seeds are shown, too, with a warning. What is no image, or can't be read, is
+  passed over: its message is printed, and the status is 1.
 
 Read:
       --hex               images in hexadecimal, one per line
@@ -210,6 +231,9 @@ Read:
 Count:
       --seed N            the seed of the images, from 0 to 2^64 - 1; default 9001
       --seed-file FILE    read the seed from FILE, which keeps it out of the process list
+      --groups            with --hex: print a line per group, on the union of its images. A line
+                          has the name of a group, a tab and an image, as sketch writes lines of
+                          groups
 
 Print:
       --bounds=Z          the bounds of an estimate are for Z standard deviations; Z is 1, 2 or
@@ -221,6 +245,7 @@ Print:
 Examples:
   distinct show *.theta                         a line per sketch
   distinct show --json --bounds=3 monday.theta  with wide bounds, for a program
+  distinct show --hex --groups a.groups         a line per group
 ";
 
 const EVAL: &str = "\
@@ -275,6 +300,11 @@ retained
 Read:
   -f, --field N           use field N as a line's key, counted from 1 as in cut -f N
   -d, --separator C       the byte between fields, with --field; default a tab
+      --csv               the files have records of CSV (RFC 4180), not lines: a field between
+                          quotes may have separators, quotes and line ends in it, but none of the
+                          last in a field that is used. The separator is a comma then. Not with
+                          --part or --sums
+      --header            with --csv: pass over the first record of each file
       --sums              read images of sums, at least one, as sketch writes them of visits,
                           and count the lines of all. Pass the same --lg-k as to sketch, --field
                           to sketch only
@@ -313,6 +343,11 @@ Read:
   -f, --field N           use field N as a line's key, counted from 1 as in cut -f N; default
                           the line
   -d, --separator C       the byte between fields; default a tab
+      --csv               the files have records of CSV (RFC 4180), not lines: a field between
+                          quotes may have separators, quotes and line ends in it, but none of the
+                          last in a field that is used. The separator is a comma then. Not with
+                          --part
+      --header            with --csv: pass over the first record of each file
       --value M           add up field M, counted from 1 as in cut -f M: decimal digits only,
                           below 2^64. A line without such a number is an error
       --files0-from FILE  read the names of the files from FILE, each ended by a NUL byte

@@ -48,8 +48,12 @@ pub struct Options<'a> {
     pub lg_k: u8,
     /// The number of the field that is a line's key, from 1, or `None` if the whole line is its key.
     pub field: Option<u32>,
-    /// The byte between fields; a tab if `None`.
+    /// The byte between fields; a tab if `None`, and a comma between those of records.
     pub separator: Option<u8>,
+    /// Whether files have records of CSV (RFC 4180), and not lines.
+    pub csv: bool,
+    /// Whether the first record of each file has the names of the fields.
+    pub header: bool,
     /// The number of the field that is the name of a line's group, from 1, or `None` if lines are not grouped.
     pub by: Option<u32>,
     /// The order in which groups are printed; by name if `None`.

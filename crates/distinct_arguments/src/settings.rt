@@ -1,14 +1,14 @@
 //! What options do to the values of options.
 ghost use Rattle.std.specs.Prelude.{◌≡◌, ◌≤◌, ◌<◌};
 ghost use Rattle.std.specs.Option.{option_map};
-ghost use Rattle.distinct_arguments.specs.Settings.{default_lg_k, default_options, chosen_key, chosen_group, chosen_mode, chosen_value};
+ghost use Rattle.distinct_arguments.specs.Settings.{default_lg_k, default_options, between, chosen_key, chosen_group, chosen_mode, chosen_value};
 ghost use Rattle.distinct_arguments.specs.Settings.{given_or, is_file, is_given, seed_in, seed_value, wrong_value};
 ghost use Rattle.distinct_arguments.specs.Settings.{options_of, set_flag, set_number, set_text, with_flag, with_value};
 ghost use Rattle.distinct_arguments.specs.Settings.{IsOfKind};
 ghost use Rattle.distinct_arguments.specs.Faults.{ReadsAs, SetsOptions};
 ghost use Rattle.distinct_arguments.specs.Table.{kind_of};
 
-use crate::commands::Command;
+use crate::commands::{Command, Operator};
 use crate::fault::{Fault, WrongWord, quoting};
 use crate::options::{Form, Mode, Options, Seed};
 use crate::precision::size_of;
@@ -22,10 +22,14 @@ use std::alloc::Global;
 
 /// The default separator of fields.
 const TAB: u8 = b'\t';
+/// The separator of fields in the lines that records are read as: the unit separator of ASCII.
+const BETWEEN: u8 = 31;
 /// The default of `--lg-k` of commands that print counts: their error is then within 0.4 %.
 const COUNTING_LG_K: u8 = 16;
+/// The nominal entries of unions that drop no hash: the most that a union may have.
+const WHOLE_LG_K: u8 = 26;
 
-/// The default of `--lg-k`.
+/// The default of `--lg-k`. Commands without this option, which unite images only with `--groups`, drop no hash.
 fn default_lg_k(command: Command) -> u8
     ensures value { result ≡ default_lg_k command }
     ensures low { 4 ≤ result }
@@ -34,6 +38,9 @@ fn default_lg_k(command: Command) -> u8
     match command {
         Command::Count => COUNTING_LG_K,
         Command::Visits => COUNTING_LG_K,
+        Command::Show => WHOLE_LG_K,
+        Command::Combine(Operator::Meet) => WHOLE_LG_K,
+        Command::Combine(Operator::Minus) => WHOLE_LG_K,
         _ => DEFAULT_LG_K,
     }
 }
@@ -47,6 +54,8 @@ impl<'a> Options<'a> {
             lg_k: default_lg_k(command),
             field: None,
             separator: None,
+            csv: false,
+            header: false,
             by: None,
             sort: None,
             least: None,
@@ -74,12 +83,23 @@ impl<'a> Options<'a> {
         }
     }
 
+    /// The byte between the fields of a line.
+    fn between(&self) -> u8
+        ensures { result ≡ between (options_of self.now) }
+    {
+        if self.csv {
+            BETWEEN
+        } else {
+            self.separator.unwrap_or(TAB)
+        }
+    }
+
     /// Which part of a line is its key.
     pub fn key(&self) -> Key
         ensures { result ≡ chosen_key (options_of self.now) }
     {
         match self.field {
-            Some(number) => Key::field(number, self.separator.unwrap_or(TAB)),
+            Some(number) => Key::field(number, self.between()),
             None => Key::Line,
         }
     }
@@ -89,7 +109,7 @@ impl<'a> Options<'a> {
         ensures { result ≡ chosen_group (options_of self.now) }
     {
         match self.by {
-            Some(number) => Some(Key::field(number, self.separator.unwrap_or(TAB))),
+            Some(number) => Some(Key::field(number, self.between())),
             None => None,
         }
     }
@@ -106,7 +126,7 @@ impl<'a> Options<'a> {
         ensures { result ≡ chosen_value (options_of self.now) }
     {
         match self.value {
-            Some(number) => Some(Key::field(number, self.separator.unwrap_or(TAB))),
+            Some(number) => Some(Key::field(number, self.between())),
             None => None,
         }
     }
@@ -120,6 +140,8 @@ pub(crate) fn is_given(options: &Options<'_>, option: OptionName) -> bool
     match option {
         OptionName::Field => options.field.is_some(),
         OptionName::Separator => options.separator.is_some(),
+        OptionName::Csv => options.csv,
+        OptionName::Header => options.header,
         OptionName::Value => options.value.is_some(),
         OptionName::Summary => options.summary.is_some(),
         OptionName::Visits => options.visits,
@@ -171,6 +193,8 @@ fn set_flag<'a>(options: Options<'a>, option: OptionName) -> Options<'a>
         OptionName::Tsv => changed.form = Form::Tsv,
         OptionName::Json => changed.form = Form::Json,
         OptionName::Human => changed.human = true,
+        OptionName::Csv => changed.csv = true,
+        OptionName::Header => changed.header = true,
         OptionName::Hex => changed.hex = true,
         OptionName::Keys => changed.keys = true,
         OptionName::Visits => changed.visits = true,

@@ -15,6 +15,8 @@ use crate::words::word_of;
 pub enum OptionName {
     Field,
     Separator,
+    Csv,
+    Header,
     Value,
     Summary,
     Visits,
@@ -75,7 +77,7 @@ pub(crate) enum Kind {
 pub(crate) enum Rule {
     Needs(OptionName),
     Excludes(OptionName),
-    /// It needs one that chooses a field: `--field`, `--by` or `--value`.
+    /// It needs one that chooses a field: `--field`, `--by` or `--value`; or `--csv`.
     NeedsField,
     /// It needs one that says where the images of groups go: `--hex` or `--output-dir`.
     NeedsOutput,
@@ -115,7 +117,7 @@ const ALL: &[&str] = &[
 const MOST: u64 = 4294967295;
 
 /// The options: what is read, how it is counted, and what is printed. If several rules are broken, the first counts.
-pub(crate) const OPTIONS: [Row; 30] = [
+pub(crate) const OPTIONS: [Row; 32] = [
     (
         OptionName::Field,
         "--field",
@@ -135,6 +137,43 @@ pub(crate) const OPTIONS: [Row; 30] = [
         Kind::Byte,
         &["count", "sketch", "eval", "visits", "sum"],
         &[(ALL, Rule::NeedsField, "")],
+    ),
+    (
+        OptionName::Csv,
+        "--csv",
+        None,
+        Kind::Flag,
+        &["count", "sketch", "visits", "sum"],
+        &[
+            (
+                ALL,
+                Rule::Excludes(OptionName::Part),
+                ": a record may have line ends in it",
+            ),
+            (
+                ALL,
+                Rule::Excludes(OptionName::Progress),
+                ": drop --progress",
+            ),
+            (
+                &["count"],
+                Rule::Excludes(OptionName::Groups),
+                ": pass --csv to sketch",
+            ),
+            (
+                &["visits"],
+                Rule::Excludes(OptionName::Sums),
+                ": pass --csv to sketch",
+            ),
+        ],
+    ),
+    (
+        OptionName::Header,
+        "--header",
+        None,
+        Kind::Flag,
+        &["count", "sketch", "visits", "sum"],
+        &[(ALL, Rule::Needs(OptionName::Csv), "")],
     ),
     (
         OptionName::Value,
@@ -323,7 +362,7 @@ pub(crate) const OPTIONS: [Row; 30] = [
         "--groups",
         None,
         Kind::Flag,
-        &["count", "union"],
+        &["count", "union", "meet", "minus", "show"],
         &[
             (ALL, Rule::Needs(OptionName::Hex), ""),
             (
@@ -453,7 +492,7 @@ pub(crate) const OPTIONS: [Row; 30] = [
 ];
 
 /// The rows of the table.
-pub(crate) fn all_rows() -> [Row; 30]
+pub(crate) fn all_rows() -> [Row; 32]
     ensures { map row_in result ≡ rows }
 {
     OPTIONS

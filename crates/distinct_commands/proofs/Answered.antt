@@ -1,5 +1,5 @@
 -- What a command answers.
-use Rattle.std.proofs.Common.{◌≡◌, ◌++◌, ℕ, Bool, true, false, List, Option, Some, None, refl, sym, ap, subst, ◌∙◌}
+use Rattle.std.proofs.Common.{◌≡◌, ℕ, Bool, true, false, List, Option, Some, None, refl, sym, ap, subst, ◌∙◌}
 use Rattle.std.specs.Prelude.{IfSome, IfOk, Result, Ok, Err}
 use Rattle.std.specs.Option.{option_map}
 use Rattle.core_compact.specs.CompactState.{Compact, ordered_sketch}
@@ -17,7 +17,7 @@ use Rattle.keys_sums.specs.Unions.{IsUnitedSums, AreSumsOfTexts}
 use Rattle.keys_sums.specs.declared.addends.Amount.{Amount}
 use Rattle.keys_sums.specs.declared.addends.Amount.TheVariants.{Number}
 use Rattle.distinct_commands.specs.Sums.{sums_of, IsSumsText}
-use Rattle.distinct_commands.specs.Answers.{sketch_of, lines_text, IsLinesText}
+use Rattle.distinct_commands.specs.Answers.{sketch_of, lines_text, listing_of, IsLinesText}
 use Rattle.distinct_commands.specs.Groups.{grouping_of, IsGroupsText, IsGroupedText}
 use Rattle.distinct_commands.specs.Texts.{count_text}
 use Rattle.distinct_commands.specs.Visits.{visits_text, IsVisitsOfImages}
@@ -42,13 +42,13 @@ sketched (Err e) items (Some texts) images by options seed s none is text = tt
 sketched (Ok v) items (Some texts) images by options seed s none is text =
     subst (λ (b : Option Key). IsLinesText images b options seed texts (items v)) (sym none) (ungrouped images options seed texts s (items v) is text)
 
-by_groups : (images : Bool) (options : OptionValues) (seed : ℕ) (texts : List (List ℕ)) (by : Key) (out : List ℕ) → IsGroupedText images options seed by texts out → IsLinesText images (Some by) options seed texts out
+by_groups : (images : Bool) (options : OptionValues) (seed : ℕ) (texts : List (List ℕ)) (by : Key) (out : List ℕ) → IsGroupedText (listing_of images) options seed by texts out → IsLinesText images (Some by) options seed texts out
 by_groups false options seed texts by out is = is
 by_groups true options seed texts by out is = is
 
 pub grouped : {V E : Type 0} (r : Result V E) (items : V → List ℕ) (images : Bool) (chosen : Option Key) (by : Key) (options : OptionValues) (seed : ℕ) (texts names : List (List ℕ)) →
     chosen ≡ Some by → AreGroups by (lines_of_all texts) names →
-    IfOk r (λ v. IsGroupsText images options (group_sketch (grouping_of options seed by) (lines_of_all texts)) names (items v)) →
+    IfOk r (λ v. IsGroupsText (listing_of images) options (group_sketch (grouping_of options seed by) (lines_of_all texts)) names (items v)) →
     IfOk r (λ v. IsLinesText images chosen options seed texts (items v))
 grouped (Err e) items images chosen by options seed texts names is has printed = tt
 grouped (Ok v) items images chosen by options seed texts names is has printed =

@@ -10,7 +10,7 @@ use Rattle.distinct_arguments.specs.Settings.{OptionValues}
 use Rattle.distinct_arguments.specs.declared.commands.Operator.{Operator}
 use Rattle.distinct_arguments.specs.declared.commands.Operator.TheVariants.{Union}
 use Rattle.distinct_inputs.specs.Failures.{images_in, unites_sums, IsOfImages, IsOfEitherUnion, IsOfCombining}
-use Rattle.distinct_commands.specs.Failing.{OrNoFiles}
+use Rattle.distinct_commands.specs.Failing.{OrNoFiles, IsOfJoin, IsOfMinus}
 use Rattle.distinct_messages.specs.declared.failure.Failure.{Failure}
 use Rattle.distinct_messages.specs.declared.failure.Failure.TheVariants.{NotText, Arguments, NoFiles, NotTwo, NoExpression, NoDir, NoName, NoNul, NoSeed, Terminal, WrongCount, NotOneEach, Memory, Unreadable, NoSketch, NoSums, NoHex, NoTab, NoLine, PastGreatest, PastUnion, PastResult, NotANumber, LongName, NotWritten}
 
@@ -81,7 +81,7 @@ not_united (Ok v) operator options seed count texts is failed = tt
 not_united (Err f) operator options seed count texts is failed = subst (λ (o : Operator). IsOfCombining o options seed count texts f) (sym is) (union_combining options seed count texts f failed)
 
 -- a command to which an image is named
-named : (IsNameError : Type 0) (IsOther : Failure → Type 0) (f : Failure) → (IsOther NoFiles → ⊥) → IsOther f → OrNoFiles IsNameError IsOther f
+pub named : (IsNameError : Type 0) (IsOther : Failure → Type 0) (f : Failure) → (IsOther NoFiles → ⊥) → IsOther f → OrNoFiles IsNameError IsOther f
 named IsNameError IsOther (NotText number text) never failed = failed
 named IsNameError IsOther (Arguments fault) never failed = failed
 named IsNameError IsOther NoFiles never failed = absurd (never failed)
@@ -111,3 +111,31 @@ named IsNameError IsOther (NotWritten name error) never failed = failed
 -- the first flaw of a line
 pub first_flaw : (seed : ℕ) (refusal : Option ErrorKind) (texts : Option (List (List ℕ))) (u : UniteError) (number : ℕ) (flaw : LineFlaw) → u ≡ Flawed number flaw → IsUniteError seed refusal texts u → IfSome texts (HasFirstFlawed seed number flaw)
 first_flaw seed refusal texts u number flaw is failed = (subst (IsUniteError seed refusal texts) is failed).1
+
+-- files of groups are not joined: `minus` fails
+pub minus_of_join : (seed count : ℕ) (texts : Option (List (List ℕ))) (f : Failure) → IsOfJoin seed texts f → IsOfMinus seed count texts f
+minus_of_join seed count texts (NotText number text) failed = failed
+minus_of_join seed count texts (Arguments fault) failed = failed
+minus_of_join seed count texts NoFiles failed = failed
+minus_of_join seed count texts NotTwo failed = absurd failed
+minus_of_join seed count texts (NoExpression text fault) failed = failed
+minus_of_join seed count texts Terminal failed = failed
+minus_of_join seed count texts (WrongCount found expected) failed = failed
+minus_of_join seed count texts (NotOneEach found expected) failed = failed
+minus_of_join seed count texts (NoDir name error) failed = failed
+minus_of_join seed count texts (NoSeed name) failed = failed
+minus_of_join seed count texts (NoName name number) failed = failed
+minus_of_join seed count texts (NoNul name) failed = failed
+minus_of_join seed count texts Memory failed = failed
+minus_of_join seed count texts (Unreadable name error) failed = failed
+minus_of_join seed count texts (NoSketch name line flaw) failed = failed
+minus_of_join seed count texts (NoSums name line flaw) failed = failed
+minus_of_join seed count texts (NoHex name line) failed = failed
+minus_of_join seed count texts (NoTab name line) failed = failed
+minus_of_join seed count texts (NoLine name) failed = failed
+minus_of_join seed count texts (PastGreatest name line) failed = failed
+minus_of_join seed count texts (PastUnion name line) failed = failed
+minus_of_join seed count texts (PastResult text) failed = failed
+minus_of_join seed count texts (NotANumber name line field value) failed = failed
+minus_of_join seed count texts (LongName path length) failed = failed
+minus_of_join seed count texts (NotWritten name error) failed = failed

@@ -1,5 +1,5 @@
 -- Images read one after another.
-use Rattle.std.proofs.Common.{◌≡◌, ℕ, suc, Bool, true, false, List, [], ◌∷◌, ◌++◌, length, map, Option, Some, None, refl, sym, ap, subst, ◌∙◌, append_assoc, append-nil, inl, inr}
+use Rattle.std.proofs.Common.{◌≡◌, ℕ, suc, Bool, true, false, List, [], ◌∷◌, ◌++◌, length, map, Option, Some, None, refl, sym, ap, subst, ◌∙◌, append_assoc, inl, inr}
 use Rattle.std.specs.Prelude.{◌≢◌, ◌⊎◌, IfSome, IfOk, Result, Ok, Err}
 use Rattle.std.specs.Option.{option_map}
 use Rattle.sketch_base.specs.Seed.{seed_hash}
@@ -11,15 +11,12 @@ use Rattle.keys_sketches.specs.Sources.{Continues, GivesNext}
 use Rattle.keys_sketches.proofs.Refused.{faulty_next}
 use Rattle.keys_sketches.specs.Shards.{AreRead}
 use Rattle.distinct_commands.specs.Answers.{IsExpected, IsIntersectionImage}
-use Rattle.distinct_commands.specs.Combined.{intersection_of}
-use Rattle.distinct_messages.specs.Failures.{display_name}
+use Rattle.keys_joins.specs.Joins.{intersection_of}
 use Rattle.distinct_inputs.specs.Failures.{AreCounted, IsOfImages}
 use Rattle.distinct_messages.specs.declared.failure.Failure.{Failure}
 use Rattle.distinct_messages.specs.declared.failure.Failure.TheVariants.{NotText, Arguments, NoFiles, NotTwo, NoExpression, NoDir, NoName, NoNul, NoSeed, Terminal, WrongCount, NotOneEach, Memory, Unreadable, NoSketch, NoSums, NoHex, NoTab, NoLine, PastGreatest, PastUnion, PastResult, NotANumber, LongName, NotWritten}
 use Rattle.distinct_inputs.specs.declared.images.Images.{Images}
 use Rattle.distinct_inputs.specs.Images.{only_image, images_of, parts_left, remaining_images, open_text, HasNoSketch, IsNoSketch, ReadsFirst, ReadsNext}
-use Rattle.distinct_commands.specs.Texts.{shown_text}
-use Rattle.distinct_arguments.specs.Settings.{OptionValues}
 
 pub none_read : (o : Option (Compact ℕ)) → ((s : Compact ℕ) → o ≡ Some s → ⊥) → o ≡ None
 none_read None none = refl

@@ -10,11 +10,11 @@ use Rattle.core_laws.specs.Samples.{IsSample, AreSamples}
 use Rattle.core_laws.specs.Values.{Sketch, Empty, NonEmpty}
 use Rattle.core_laws.specs.declared.TheConstants.{MAX_THETA}
 use Rattle.core_laws.proofs.operators.Samples.{meet_samples, minus_samples}
-use Rattle.core_images.specs.Entry.{HasEntries, SpellsHash}
+use Rattle.core_images.specs.Entry.{SpellsHash}
 use Rattle.core_images.specs.declared.preamble.Preamble.{Preamble}
 use Rattle.core_images.specs.Read.{ReadsFlagged, empty_image, single_image, exact_image, estimating_image}
 use Rattle.sketch_base.specs.Seed.{seed_hash}
-use Rattle.theta_sketches.specs.Image.{Reads, SpellsSketch, version_3, version_2_empty, version_2_exact, version_2_estimating, version_1}
+use Rattle.theta_sketches.specs.Image.{SpellsSketch, version_3, version_2_empty, version_2_exact, version_2_estimating, version_1}
 use Rattle.theta_sketches.specs.Image.{ReadsUnflagged, vacant_image, filled_image}
 use Rattle.keys_sketches.specs.Shards.{values_of_sketches, AreRead}
 use Rattle.distinct_messages.specs.declared.failure.Failure.{Failure}

@@ -1,5 +1,5 @@
 -- Lines on images that are read, and failures of those that are passed over.
-use Rattle.std.proofs.Common.{◌≡◌, ℕ, Bool, true, false, List, [], ◌∷◌, ◌++◌, Option, Some, None, refl, sym, ap, subst, ◌∙◌, append_assoc, append-nil, inl, inr}
+use Rattle.std.proofs.Common.{◌≡◌, ℕ, Bool, true, false, List, [], ◌∷◌, ◌++◌, Option, Some, None, refl, sym, subst, append_assoc, append-nil, inl, inr}
 use Rattle.std.specs.Prelude.{◌&&◌, IfSome, String, string_bytes}
 use Rattle.std.specs.List.{list_all}
 use Rattle.core_compact.specs.CompactState.{Compact}
@@ -7,9 +7,8 @@ use Rattle.distinct_arguments.specs.Settings.{OptionValues}
 use Rattle.distinct_messages.specs.Failures.{display_name, is_fault, IsOfOne, UnreadableIf}
 use Rattle.distinct_messages.specs.declared.failure.Failure.{Failure}
 use Rattle.distinct_inputs.specs.Failures.{NotesNext}
-use Rattle.distinct_inputs.specs.Images.{ReadsFirst}
 use Rattle.distinct_commands.specs.Texts.{shown_text}
-use Rattle.distinct_commands.specs.Showing.{AreShownByName, AreShown, AreOfOne, PassesFirst, SeesNext, IfPassed, IsAppended, NamesFile}
+use Rattle.distinct_commands.specs.Showing.{AreShownByName, AreShown, AreOfOne, ShowsFirst, PassesFirst, SeesNext, IfPassed, IsAppended, NamesFile}
 use Rattle.distinct_commands.specs.declared.show.Seen.{Seen}
 use Rattle.distinct_commands.specs.declared.show.Seen.TheVariants.{Sketch, Passed}
 
@@ -37,14 +36,14 @@ more_of_one may_fail options name o (Passed f) shown new_shown passed new_passed
     let kind = subst (λ next. IfPassed next (λ f. IsOfOne f × UnreadableIf may_fail f)) is one in
     subst (AreOfOne may_fail) (sym put.1) (one_more may_fail passed f all kind.0 kind.1)
 
-module _ (options : OptionValues) (seed : ℕ) where
+module _ (options : OptionValues) where
   -- ---- under the names of files
 
   -- the lines so far, followed by those of the images that are left, are all lines, and so are the failures
   abbrev pub FollowsByName : (all names : List (List ℕ)) (shown : List ℕ) (passed : List Failure) (now : Option (List (List ℕ))) (left : List (List ℕ)) → Type 0
   FollowsByName all names shown passed None left = ⊥
   FollowsByName all names shown passed (Some images) left =
-      (rest : List ℕ) (more : List Failure) → AreShownByName options seed left images rest more → AreShownByName options seed names all (shown ++ rest) (passed ++ more)
+      (rest : List ℕ) (more : List Failure) → AreShownByName options left images rest more → AreShownByName options names all (shown ++ rest) (passed ++ more)
 
   -- .. if each failure is one of bytes
   abbrev pub ShowsByName : (old : Option (List (List ℕ))) (names : List (List ℕ)) (shown : List ℕ) (passed : List Failure) (now : Option (List (List ℕ))) (left : List (List ℕ)) → Type 0
@@ -58,22 +57,22 @@ module _ (options : OptionValues) (seed : ℕ) where
       (subst (λ (l : List Failure). ShowsByName (Some all) names [] l (Some all) names) (sym no_failure) (λ faults rest more is. is))
 
   shown_by_name : (all names : List (List ℕ)) (shown : List ℕ) (passed : List Failure) (images : List (List ℕ)) (name : List ℕ) (others : List (List ℕ)) (s : Compact ℕ) (new : Option (List (List ℕ))) →
-      FollowsByName all names shown passed (Some images) (name ∷ others) → ReadsFirst seed images s new → FollowsByName all names (shown ++ shown_text options (display_name name) s) passed new others
+      FollowsByName all names shown passed (Some images) (name ∷ others) → ShowsFirst images s new → FollowsByName all names (shown ++ shown_text options (display_name name) s) passed new others
   shown_by_name all names shown passed images name others s new so_far first =
       let line = shown_text options (display_name name) s in
       subst (λ (o : Option (List (List ℕ))). FollowsByName all names (shown ++ line) passed o others) (sym first.leaves) (λ rest more is.
-      subst (λ (l : List ℕ). AreShownByName options seed names all l (passed ++ more)) (sym (append_assoc shown line rest))
-      (so_far (line ++ rest) more (subst (λ (l : List (List ℕ)). AreShownByName options seed (name ∷ others) l (line ++ rest) more) (sym first.parted) (inl (s, rest, first.reads, refl, is)))))
+      subst (λ (l : List ℕ). AreShownByName options names all l (passed ++ more)) (sym (append_assoc shown line rest))
+      (so_far (line ++ rest) more (subst (λ (l : List (List ℕ)). AreShownByName options (name ∷ others) l (line ++ rest) more) (sym first.parted) (inl (s, rest, first.is_image, refl, is)))))
 
   passed_by_name : (all names : List (List ℕ)) (shown : List ℕ) (passed : List Failure) (images : List (List ℕ)) (name : List ℕ) (others : List (List ℕ)) (f : Failure) (new : Option (List (List ℕ))) →
-      FollowsByName all names shown passed (Some images) (name ∷ others) → PassesFirst seed images new → NamesFile (display_name name) f → FollowsByName all names shown (passed ++ f ∷ []) new others
+      FollowsByName all names shown passed (Some images) (name ∷ others) → PassesFirst images new → NamesFile (display_name name) f → FollowsByName all names shown (passed ++ f ∷ []) new others
   passed_by_name all names shown passed images name others f new so_far first named =
       subst (λ (o : Option (List (List ℕ))). FollowsByName all names shown (passed ++ f ∷ []) o others) (sym first.leaves) (λ rest more is.
-      subst (AreShownByName options seed names all (shown ++ rest)) (sym (append_assoc passed (f ∷ []) more))
-      (so_far rest (f ∷ more) (subst (λ (l : List (List ℕ)). AreShownByName options seed (name ∷ others) l rest (f ∷ more)) (sym first.parted) (inr (f, more, first.is_none, named, refl, is)))))
+      subst (AreShownByName options names all (shown ++ rest)) (sym (append_assoc passed (f ∷ []) more))
+      (so_far rest (f ∷ more) (subst (λ (l : List (List ℕ)). AreShownByName options (name ∷ others) l rest (f ∷ more)) (sym first.parted) (inr (f, more, first.is_none, named, refl, is)))))
 
   follows_by_name : (all names : List (List ℕ)) (shown : List ℕ) (passed : List Failure) (now : Option (List (List ℕ))) (name : List ℕ) (others : List (List ℕ)) (seen : Seen) (new : Option (List (List ℕ))) (new_shown : List ℕ) (new_passed : List Failure) →
-      ShowsByName (Some all) names shown passed now (name ∷ others) → SeesNext seed now new (Some seen) → IfPassed (Some seen) (NamesFile (display_name name)) → IsAppended options (display_name name) seen shown passed new_shown new_passed →
+      ShowsByName (Some all) names shown passed now (name ∷ others) → SeesNext now new (Some seen) → IfPassed (Some seen) (NamesFile (display_name name)) → IsAppended options (display_name name) seen shown passed new_shown new_passed →
       list_all is_fault new_passed ≡ true → FollowsByName all names new_shown new_passed new others
   follows_by_name all names shown passed None name others (Sketch s) new new_shown new_passed so_far sees named put faults =
       absurd (so_far (subst (λ l. list_all is_fault l ≡ true) put.1 faults))
@@ -90,39 +89,39 @@ module _ (options : OptionValues) (seed : ℕ) where
       (passed_by_name all names shown passed images name others f new (so_far both.0) (sees both.1) named))
 
   pub more_by_name : (old : Option (List (List ℕ))) (names : List (List ℕ)) (shown : List ℕ) (passed : List Failure) (now : Option (List (List ℕ))) (left : List (List ℕ)) (name : List ℕ) (others : List (List ℕ)) (o : Option Seen) (seen : Seen) (new : Option (List (List ℕ))) (new_shown : List ℕ) (new_passed : List Failure) →
-      ShowsByName old names shown passed now left → left ≡ name ∷ others → SeesNext seed now new o → o ≡ Some seen → IfPassed o (NamesFile (display_name name)) → IsAppended options (display_name name) seen shown passed new_shown new_passed →
+      ShowsByName old names shown passed now left → left ≡ name ∷ others → SeesNext now new o → o ≡ Some seen → IfPassed o (NamesFile (display_name name)) → IsAppended options (display_name name) seen shown passed new_shown new_passed →
       ShowsByName old names new_shown new_passed new others
   more_by_name None names shown passed now left name others o seen new new_shown new_passed so_far parted sees is named put = tt
   more_by_name (Some all) names shown passed now left name others o seen new new_shown new_passed so_far parted sees is named put =
       follows_by_name all names shown passed now name others seen new new_shown new_passed (subst (ShowsByName (Some all) names shown passed now) parted so_far)
-      (subst (SeesNext seed now new) is sees) (subst (λ next. IfPassed next (NamesFile (display_name name))) is named) put
+      (subst (SeesNext now new) is sees) (subst (λ next. IfPassed next (NamesFile (display_name name))) is named) put
 
-  none_left : (left : List (List ℕ)) → AreShownByName options seed left [] [] []
+  none_left : (left : List (List ℕ)) → AreShownByName options left [] [] []
   none_left [] = (refl, refl)
   none_left (name ∷ left) = (refl, refl)
 
-  ends_with : (all names : List (List ℕ)) (shown : List ℕ) (passed : List Failure) → AreShownByName options seed names all (shown ++ []) (passed ++ []) → AreShownByName options seed names all shown passed
+  ends_with : (all names : List (List ℕ)) (shown : List ℕ) (passed : List Failure) → AreShownByName options names all (shown ++ []) (passed ++ []) → AreShownByName options names all shown passed
   ends_with all names shown passed is =
-      subst (λ (l : List ℕ). AreShownByName options seed names all l passed) (append-nil shown) (subst (AreShownByName options seed names all (shown ++ [])) (append-nil passed) is)
+      subst (λ (l : List ℕ). AreShownByName options names all l passed) (append-nil shown) (subst (AreShownByName options names all (shown ++ [])) (append-nil passed) is)
 
   all_read : (all names : List (List ℕ)) (shown : List ℕ) (passed : List Failure) (now : Option (List (List ℕ))) (left : List (List ℕ)) (new : Option (List (List ℕ))) →
-      FollowsByName all names shown passed now left → SeesNext seed now new None → AreShownByName options seed names all shown passed
+      FollowsByName all names shown passed now left → SeesNext now new None → AreShownByName options names all shown passed
   all_read all names shown passed None left new so_far sees = absurd so_far
   all_read all names shown passed (Some images) left new so_far sees =
-      ends_with all names shown passed (so_far [] [] (subst (λ (l : List (List ℕ)). AreShownByName options seed left l [] []) (sym sees) (none_left left)))
+      ends_with all names shown passed (so_far [] [] (subst (λ (l : List (List ℕ)). AreShownByName options left l [] []) (sym sees) (none_left left)))
 
   pub all_by_name : (old : Option (List (List ℕ))) (names : List (List ℕ)) (shown : List ℕ) (passed : List Failure) (now : Option (List (List ℕ))) (left : List (List ℕ)) (o : Option Seen) (new : Option (List (List ℕ))) →
-      ShowsByName old names shown passed now left → SeesNext seed now new o → o ≡ None → IfSome old (λ all. list_all is_fault passed ≡ true → AreShownByName options seed names all shown passed)
+      ShowsByName old names shown passed now left → SeesNext now new o → o ≡ None → IfSome old (λ all. list_all is_fault passed ≡ true → AreShownByName options names all shown passed)
   all_by_name None names shown passed now left o new so_far sees is = tt
   all_by_name (Some all) names shown passed now left o new so_far sees is = λ faults.
-      all_read all names shown passed now left new (so_far faults) (subst (SeesNext seed now new) is sees)
+      all_read all names shown passed now left new (so_far faults) (subst (SeesNext now new) is sees)
 
-  all_named : (all names : List (List ℕ)) (shown : List ℕ) (passed : List Failure) (now : Option (List (List ℕ))) → FollowsByName all names shown passed now [] → AreShownByName options seed names all shown passed
+  all_named : (all names : List (List ℕ)) (shown : List ℕ) (passed : List Failure) (now : Option (List (List ℕ))) → FollowsByName all names shown passed now [] → AreShownByName options names all shown passed
   all_named all names shown passed None so_far = absurd so_far
   all_named all names shown passed (Some images) so_far = ends_with all names shown passed (so_far [] [] (refl, refl))
 
   pub named_by_name : (old : Option (List (List ℕ))) (names : List (List ℕ)) (shown : List ℕ) (passed : List Failure) (now : Option (List (List ℕ))) (left : List (List ℕ)) →
-      ShowsByName old names shown passed now left → left ≡ [] → IfSome old (λ all. list_all is_fault passed ≡ true → AreShownByName options seed names all shown passed)
+      ShowsByName old names shown passed now left → left ≡ [] → IfSome old (λ all. list_all is_fault passed ≡ true → AreShownByName options names all shown passed)
   named_by_name None names shown passed now left so_far none = tt
   named_by_name (Some all) names shown passed now left so_far none = λ faults. all_named all names shown passed now (subst (FollowsByName all names shown passed now) none (so_far faults))
 
@@ -130,7 +129,7 @@ module _ (options : OptionValues) (seed : ℕ) where
 
   abbrev pub Follows : (all : List (List ℕ)) (shown : List ℕ) (passed : List Failure) (now : Option (List (List ℕ))) → Type 0
   Follows all shown passed None = ⊥
-  Follows all shown passed (Some images) = (rest : List ℕ) (more : List Failure) → AreShown options seed images rest more → AreShown options seed all (shown ++ rest) (passed ++ more)
+  Follows all shown passed (Some images) = (rest : List ℕ) (more : List Failure) → AreShown options images rest more → AreShown options all (shown ++ rest) (passed ++ more)
 
   abbrev pub Shows : (old : Option (List (List ℕ))) (shown : List ℕ) (passed : List Failure) (now : Option (List (List ℕ))) → Type 0
   Shows None shown passed now = Unit {0}
@@ -143,22 +142,22 @@ module _ (options : OptionValues) (seed : ℕ) where
       (subst (λ (l : List Failure). Shows (Some all) [] l (Some all)) (sym no_failure) (λ faults rest more is. is))
 
   shown_next : (all : List (List ℕ)) (shown : List ℕ) (passed : List Failure) (images : List (List ℕ)) (name : List ℕ) (s : Compact ℕ) (new : Option (List (List ℕ))) →
-      Follows all shown passed (Some images) → ReadsFirst seed images s new → Follows all (shown ++ shown_text options name s) passed new
+      Follows all shown passed (Some images) → ShowsFirst images s new → Follows all (shown ++ shown_text options name s) passed new
   shown_next all shown passed images name s new so_far first =
       let line = shown_text options name s in
       subst (Follows all (shown ++ line) passed) (sym first.leaves) (λ rest more is.
-      subst (λ (l : List ℕ). AreShown options seed all l (passed ++ more)) (sym (append_assoc shown line rest))
-      (so_far (line ++ rest) more (subst (λ (l : List (List ℕ)). AreShown options seed l (line ++ rest) more) (sym first.parted) (inl (name, s, rest, first.reads, refl, is)))))
+      subst (λ (l : List ℕ). AreShown options all l (passed ++ more)) (sym (append_assoc shown line rest))
+      (so_far (line ++ rest) more (subst (λ (l : List (List ℕ)). AreShown options l (line ++ rest) more) (sym first.parted) (inl (name, s, rest, first.is_image, refl, is)))))
 
   passed_next : (all : List (List ℕ)) (shown : List ℕ) (passed : List Failure) (images : List (List ℕ)) (f : Failure) (new : Option (List (List ℕ))) →
-      Follows all shown passed (Some images) → PassesFirst seed images new → Follows all shown (passed ++ f ∷ []) new
+      Follows all shown passed (Some images) → PassesFirst images new → Follows all shown (passed ++ f ∷ []) new
   passed_next all shown passed images f new so_far first =
       subst (Follows all shown (passed ++ f ∷ [])) (sym first.leaves) (λ rest more is.
-      subst (AreShown options seed all (shown ++ rest)) (sym (append_assoc passed (f ∷ []) more))
-      (so_far rest (f ∷ more) (subst (λ (l : List (List ℕ)). AreShown options seed l rest (f ∷ more)) (sym first.parted) (inr (f, more, first.is_none, refl, is)))))
+      subst (AreShown options all (shown ++ rest)) (sym (append_assoc passed (f ∷ []) more))
+      (so_far rest (f ∷ more) (subst (λ (l : List (List ℕ)). AreShown options l rest (f ∷ more)) (sym first.parted) (inr (f, more, first.is_none, refl, is)))))
 
   follows : (all : List (List ℕ)) (name shown : List ℕ) (passed : List Failure) (now : Option (List (List ℕ))) (seen : Seen) (new : Option (List (List ℕ))) (new_shown : List ℕ) (new_passed : List Failure) →
-      Shows (Some all) shown passed now → SeesNext seed now new (Some seen) → IsAppended options name seen shown passed new_shown new_passed →
+      Shows (Some all) shown passed now → SeesNext now new (Some seen) → IsAppended options name seen shown passed new_shown new_passed →
       list_all is_fault new_passed ≡ true → Follows all new_shown new_passed new
   follows all name shown passed None (Sketch s) new new_shown new_passed so_far sees put faults =
       absurd (so_far (subst (λ l. list_all is_fault l ≡ true) put.1 faults))
@@ -175,21 +174,21 @@ module _ (options : OptionValues) (seed : ℕ) where
       (passed_next all shown passed images f new (so_far both.0) (sees both.1)))
 
   pub more_shown : (old : Option (List (List ℕ))) (name shown : List ℕ) (passed : List Failure) (now : Option (List (List ℕ))) (o : Option Seen) (seen : Seen) (new : Option (List (List ℕ))) (new_shown : List ℕ) (new_passed : List Failure) →
-      Shows old shown passed now → SeesNext seed now new o → o ≡ Some seen → IsAppended options name seen shown passed new_shown new_passed → Shows old new_shown new_passed new
+      Shows old shown passed now → SeesNext now new o → o ≡ Some seen → IsAppended options name seen shown passed new_shown new_passed → Shows old new_shown new_passed new
   more_shown None name shown passed now o seen new new_shown new_passed so_far sees is put = tt
   more_shown (Some all) name shown passed now o seen new new_shown new_passed so_far sees is put =
-      follows all name shown passed now seen new new_shown new_passed so_far (subst (SeesNext seed now new) is sees) put
+      follows all name shown passed now seen new new_shown new_passed so_far (subst (SeesNext now new) is sees) put
 
-  all_followed : (all : List (List ℕ)) (shown : List ℕ) (passed : List Failure) (now new : Option (List (List ℕ))) → Follows all shown passed now → SeesNext seed now new None → AreShown options seed all shown passed
+  all_followed : (all : List (List ℕ)) (shown : List ℕ) (passed : List Failure) (now new : Option (List (List ℕ))) → Follows all shown passed now → SeesNext now new None → AreShown options all shown passed
   all_followed all shown passed None new so_far sees = absurd so_far
   all_followed all shown passed (Some images) new so_far sees =
-      subst (λ (l : List ℕ). AreShown options seed all l passed) (append-nil shown) (subst (AreShown options seed all (shown ++ [])) (append-nil passed)
-      (so_far [] [] (subst (λ (l : List (List ℕ)). AreShown options seed l [] []) (sym sees) (refl, refl))))
+      subst (λ (l : List ℕ). AreShown options all l passed) (append-nil shown) (subst (AreShown options all (shown ++ [])) (append-nil passed)
+      (so_far [] [] (subst (λ (l : List (List ℕ)). AreShown options l [] []) (sym sees) (refl, refl))))
 
   pub all_shown : (old : Option (List (List ℕ))) (shown : List ℕ) (passed : List Failure) (now : Option (List (List ℕ))) (o : Option Seen) (new : Option (List (List ℕ))) →
-      Shows old shown passed now → SeesNext seed now new o → o ≡ None → IfSome old (λ all. list_all is_fault passed ≡ true → AreShown options seed all shown passed)
+      Shows old shown passed now → SeesNext now new o → o ≡ None → IfSome old (λ all. list_all is_fault passed ≡ true → AreShown options all shown passed)
   all_shown None shown passed now o new so_far sees is = tt
-  all_shown (Some all) shown passed now o new so_far sees is = λ faults. all_followed all shown passed now new (so_far faults) (subst (SeesNext seed now new) is sees)
+  all_shown (Some all) shown passed now o new so_far sees is = λ faults. all_followed all shown passed now new (so_far faults) (subst (SeesNext now new) is sees)
 
 pub none_seen : (o : Option Seen) → ((s : Seen) → o ≡ Some s → ⊥) → o ≡ None
 none_seen None none = refl

@@ -1,9 +1,8 @@
 -- What a command writes, by the texts of its files.
-use Rattle.std.specs.Prelude.{ℕ, ◌≡◌, ◌++◌, Bool, true, false, List, [], ◌∷◌, length, Option, Some, None, IfSome}
+use Rattle.std.specs.Prelude.{ℕ, ◌≡◌, Bool, true, false, List, [], ◌∷◌, length, Option, Some, None, IfSome}
 use Rattle.std.specs.Io.KnownBytes.{Appends}
 use Rattle.core_compact.specs.CompactState.{Compact}
-use Rattle.theta_sketches.specs.Image.{Reads, written}
-use Rattle.sketch_base.specs.Seed.{seed_hash}
+use Rattle.theta_sketches.specs.Image.{written}
 use Rattle.tuple_sketches.specs.declared.numbers.SummaryMode.{SummaryMode}
 use Rattle.keys_lines.specs.Lines.{lines_of_all}
 use Rattle.keys_sketches.specs.Keys.{value_of_lines, sketch_of_value}
@@ -15,11 +14,13 @@ use Rattle.distinct_arguments.specs.Settings.{OptionValues, chosen_group, chosen
 use Rattle.keys_groups.specs.United.{IsUnitedText}
 use Rattle.distinct_arguments.specs.Arguments.{Action, prints, runs, fails}
 use Rattle.distinct_arguments.specs.Texts.{text_of}
-use Rattle.distinct_inputs.specs.Failures.{chosen_amount, chosen_hashing, chosen_summary, unites_groups, unites_sums}
-use Rattle.distinct_commands.specs.Combined.{intersection_of, difference_of}
+use Rattle.distinct_inputs.specs.Failures.{chosen_amount, chosen_hashing, chosen_summary, unites_sums}
+use Rattle.keys_joins.specs.Joins.{intersection_of, difference_of, IsMeetText, IsMinusText}
 use Rattle.distinct_commands.specs.Eval.{IsEvaluatedOf}
 use Rattle.distinct_inputs.specs.Images.{images_of, in_form}
-use Rattle.distinct_commands.specs.Groups.{IsGroupedText, IsUnitedCount}
+use Rattle.distinct_commands.specs.Groups.{IsGroupedText, IsUnitedListing}
+use Rattle.distinct_commands.specs.declared.groups.Listing.{Listing}
+use Rattle.distinct_commands.specs.declared.groups.Listing.TheVariants.{Counts, Images, Shown}
 use Rattle.keys_lines.specs.declared.key.Key.{Key}
 use Rattle.distinct_commands.specs.Texts.{count_text}
 use Rattle.distinct_commands.specs.Showing.{IsShownOf}
@@ -72,17 +73,22 @@ IsCombinedOf operator options seed texts out = IsCombined operator options seed 
 -- what `count` prints of the lines of texts, by the key of their groups if there is one
 abbrev pub IsCountOf : (by : Option Key) → OptionValues → (seed : ℕ) → (texts : List (List ℕ)) → List ℕ → Type 0
 IsCountOf None options seed texts out = out ≡ count_text options (sketch_of options seed texts)
-IsCountOf (Some by) options seed texts out = IsGroupedText false options seed by texts out
+IsCountOf (Some by) options seed texts out = IsGroupedText Counts options seed by texts out
 
 -- what `count` prints of texts: of their lines, or of the groups of images in them
 abbrev pub IsCountText : (of_groups : Bool) → OptionValues → (seed : ℕ) → (texts : List (List ℕ)) → List ℕ → Type 0
 IsCountText false options seed texts out = IsCountOf (chosen_group options) options seed texts out
-IsCountText true options seed texts out = IsUnitedCount options seed texts out
+IsCountText true options seed texts out = IsUnitedListing Counts options seed texts out
 
 -- what `sketch` writes of texts, by the key of their groups if there is one
 abbrev pub IsSketchOf : (by : Option Key) → OptionValues → (seed : ℕ) → (texts : List (List ℕ)) → List ℕ → Type 0
 IsSketchOf None options seed texts out = out ≡ in_form options.hex (written (sketch_of options seed texts))
-IsSketchOf (Some by) options seed texts out = IsGroupedText true options seed by texts out
+IsSketchOf (Some by) options seed texts out = IsGroupedText Images options seed by texts out
+
+-- how the groups of lines are listed: by their images, or by their counts
+abbrev pub listing_of : (images : Bool) → Listing
+listing_of false = Counts
+listing_of true = Images
 
 -- what `count` prints of a sketch of lines, or its image, as `sketch` writes it
 abbrev pub lines_text : (images : Bool) → OptionValues → Compact ℕ → List ℕ
@@ -99,26 +105,37 @@ abbrev pub IsSketchText : Option Amount → (by : Option Key) → OptionValues �
 IsSketchText None by options seed texts out = IsSketchOf by options seed texts out
 IsSketchText (Some amount) by options seed texts out = IsSumsText amount options seed texts out
 
+-- a line for each group of the result of an operator on the groups of images in files
+abbrev pub IsCombinedGroups : Operator → (seed lg_k : ℕ) → (texts : List (List ℕ)) → List ℕ → Type 0
+IsCombinedGroups Union seed lg_k texts out = IsUnitedText seed lg_k (lines_of_all texts) out
+IsCombinedGroups Meet seed lg_k texts out = IsMeetText seed lg_k texts out
+IsCombinedGroups Minus seed lg_k texts out = IsMinusText seed lg_k texts out
+
 -- what an operator writes of the images in files: an image, or a line for each group with its image
 abbrev pub IsCombinedText : (by_groups : Bool) → Operator → OptionValues → (seed : ℕ) → (texts : List (List ℕ)) → List ℕ → Type 0
 IsCombinedText false operator options seed texts out =
     (image : List ℕ) × IsCombinedOf operator options seed texts image × (out ≡ in_form options.hex image)
-IsCombinedText true operator options seed texts out = IsUnitedText seed options.lg_k (lines_of_all texts) out
+IsCombinedText true operator options seed texts out = IsCombinedGroups operator seed options.lg_k texts out
 
 -- what a command other than `show` writes for files of these names and texts; the only name of `eval` is its expression
 abbrev pub IsWholeAnswer : Command → OptionValues → (seed : ℕ) → (names texts : List (List ℕ)) → List ℕ → Type 0
 IsWholeAnswer Count options seed names texts out = IsCountText options.groups options seed texts out
 IsWholeAnswer Sketch options seed names texts out = IsSketchText (chosen_amount options) (chosen_group options) options seed texts out
-IsWholeAnswer (Combine operator) options seed names texts out = IsCombinedText (unites_groups operator options) operator options seed texts out
+IsWholeAnswer (Combine operator) options seed names texts out = IsCombinedText options.groups operator options seed texts out
 IsWholeAnswer Show options seed names texts out = ⊥
 IsWholeAnswer Eval options seed names texts out = IsEvaluatedOf options seed names texts out
 IsWholeAnswer Visits options seed names texts out = IsVisitsText options.sums options seed texts out
 IsWholeAnswer Sum options seed names texts out = IsTotalText (chosen_value options) options seed texts out
 IsWholeAnswer Similarity options seed names texts out = IsComparedOf options seed texts out
 
+-- what `show` prints of texts: of the images in them, or of the groups of images, of which it passes over nothing
+abbrev pub IsShowText : (of_groups : Bool) → OptionValues → (seed : ℕ) → (names texts : List (List ℕ)) → List ℕ → (passed : List Failure) → Type 0
+IsShowText false options seed names texts out passed = IsShownOf options names texts out passed
+IsShowText true options seed names texts out passed = IsUnitedListing Shown options seed texts out × (passed ≡ [])
+
 -- what a command writes, and the failures of the files that it passes over: `show` of those that have no image, any other of none
 abbrev pub IsCommandAnswer : Command → OptionValues → (seed : ℕ) → (names texts : List (List ℕ)) → List ℕ → (passed : List Failure) → Type 0
-IsCommandAnswer Show options seed names texts out passed = IsShownOf options seed names texts out passed
+IsCommandAnswer Show options seed names texts out passed = IsShowText options.groups options seed names texts out passed
 IsCommandAnswer command options seed names texts out passed = IsWholeAnswer command options seed names texts out × (passed ≡ [])
 
 -- the command's answer was written, and nothing else

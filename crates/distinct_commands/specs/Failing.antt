@@ -15,10 +15,14 @@ use Rattle.distinct_arguments.specs.Settings.{OptionValues}
 use Rattle.distinct_arguments.specs.declared.commands.Command.{Command}
 use Rattle.distinct_arguments.specs.declared.commands.Command.TheVariants.{Count, Sketch, Combine, Show, Eval}
 use Rattle.distinct_arguments.specs.declared.commands.Command.TheVariants.{Visits, Sum, Similarity}
+use Rattle.distinct_arguments.specs.declared.commands.Operator.{Operator}
+use Rattle.distinct_arguments.specs.declared.commands.Operator.TheVariants.{Union, Meet, Minus}
 use Rattle.distinct_arguments.specs.declared.fault.Fault.TheVariants.{NotOneExpression}
-use Rattle.distinct_inputs.specs.Failures.{AreNotTwo, chosen_summary, images_in, unites_groups, IsOfReading, IsOfImages, IsOfSketch}
+use Rattle.keys_groups.specs.declared.united.LineFlaw.TheVariants.{NoTab as NoTabAtAll, NoHex as NoDigits, NoImage}
+use Rattle.keys_joins.specs.Reading.{HasFlawedIn}
+use Rattle.distinct_inputs.specs.Failures.{AreNotTwo, chosen_summary, images_in, IsOfReading, IsOfImages, IsOfSketch}
 use Rattle.distinct_messages.specs.Failures.{IsOfWriting}
-use Rattle.distinct_inputs.specs.Failures.{IsOfGroups, IsOfOperator, IsOfVisits, IsOfTotal}
+use Rattle.distinct_inputs.specs.Failures.{IsOfCombining, IsOfGroups, IsOfVisits, IsOfTotal}
 use Rattle.distinct_inputs.specs.Images.{images_of}
 use Rattle.distinct_inputs.specs.Lists.{IsFirstUnnamed}
 use Rattle.distinct_messages.specs.declared.failure.Failure.{Failure}
@@ -26,6 +30,7 @@ use Rattle.distinct_inputs.specs.declared.lists.ListError.{ListError}
 use Rattle.distinct_inputs.specs.declared.lists.ListError.TheVariants.{Name, Memory as NoMemory}
 use Rattle.distinct_messages.specs.declared.failure.Failure.TheVariants.{Arguments, NoFiles, NotTwo, NoExpression, NoName}
 use Rattle.distinct_messages.specs.declared.failure.Failure.TheVariants.{NotOneEach, PastResult, Memory}
+use Rattle.distinct_messages.specs.declared.failure.Failure.TheVariants.{NoTab, NoHex, NoSketch}
 use Rattle.distinct_commands.specs.Showing.{EndsShow}
 use Rattle.distinct_commands.specs.declared.expression.Operands.{Operands}
 use Rattle.distinct_commands.specs.declared.expression.Operands.TheVariants as operands
@@ -102,6 +107,34 @@ abbrev pub IsOfCount : (of_groups : Bool) → (seed count : ℕ) → (texts : Op
 IsOfCount false seed count texts failure = IsOfReading failure
 IsOfCount true seed count texts failure = OrNoFiles (count ≡ 0) (IsOfGroups seed texts) failure
 
+-- `show` fails: it ends, or groups of images can't be united
+abbrev pub IsOfShow : (of_groups : Bool) → (seed : ℕ) → (texts : Option (List (List ℕ))) → Failure → Type 0
+IsOfShow false seed texts failure = EndsShow failure
+IsOfShow true seed texts failure = IsOfGroups seed texts failure
+
+-- in some text the first line with a flaw has this one, and this number: files of groups are not joined
+abbrev pub IsOfJoin : (seed : ℕ) → (texts : Option (List (List ℕ))) → Failure → Type 0
+IsOfJoin seed texts (NoTab name line) = IfSome texts (HasFlawedIn seed line NoTabAtAll)
+IsOfJoin seed texts (NoHex name line) = IfSome texts (HasFlawedIn seed line NoDigits)
+IsOfJoin seed texts (NoSketch name line flaw) = IfSome texts (HasFlawedIn seed line (NoImage flaw))
+IsOfJoin seed texts failure = IsOfReading failure
+
+-- .. or `minus` doesn't have two files
+abbrev pub IsOfMinus : (seed count : ℕ) → (texts : Option (List (List ℕ))) → Failure → Type 0
+IsOfMinus seed count texts NotTwo = (count ≢ 2) ⊎ IfSome texts (λ all. length all ≢ 2)
+IsOfMinus seed count texts failure = IsOfJoin seed texts failure
+
+-- an operator fails on groups of images
+abbrev pub IsOfCombinedGroups : Operator → (seed count : ℕ) → (texts : Option (List (List ℕ))) → Failure → Type 0
+IsOfCombinedGroups Union seed count texts failure = IsOfGroups seed texts failure
+IsOfCombinedGroups Meet seed count texts failure = IsOfJoin seed texts failure
+IsOfCombinedGroups Minus seed count texts failure = IsOfMinus seed count texts failure
+
+-- .. or on images
+abbrev pub IsOfOperator : (by_groups : Bool) → Operator → OptionValues → (seed count : ℕ) → (texts : Option (List (List ℕ))) → Failure → Type 0
+IsOfOperator true operator options seed count texts failure = IsOfCombinedGroups operator seed count texts failure
+IsOfOperator false operator options seed count texts failure = IsOfCombining operator options seed count texts failure
+
 -- `similarity` fails: memory, a file or its contents is at fault, or there are not two images
 abbrev pub IsOfPair : OptionValues → (seed count : ℕ) → (texts : Option (List (List ℕ))) → Failure → Type 0
 IsOfPair options seed count texts failure =
@@ -113,8 +146,8 @@ abbrev pub IsOfCommand : Command → OptionValues → (seed count : ℕ) → (te
 IsOfCommand Count options seed count texts failure = IsOfCount options.groups seed count texts failure
 IsOfCommand Sketch options seed count texts failure = IsOfSketch options seed texts failure
 IsOfCommand (Combine operator) options seed count texts failure =
-    OrNoFiles (count ≡ 0) (IsOfOperator (unites_groups operator options) operator options seed count texts) failure
-IsOfCommand Show options seed count texts failure = OrNoFiles (count ≡ 0) EndsShow failure
+    OrNoFiles (count ≡ 0) (IsOfOperator options.groups operator options seed count texts) failure
+IsOfCommand Show options seed count texts failure = OrNoFiles (count ≡ 0) (IsOfShow options.groups seed texts) failure
 IsOfCommand Eval options seed count texts failure = ⊥
 IsOfCommand Visits options seed count texts failure = OrNoFiles ((count ≡ 0) × (options.sums ≡ true)) (IsOfVisits options seed texts) failure
 IsOfCommand Sum options seed count texts failure = IsOfTotal options seed texts failure

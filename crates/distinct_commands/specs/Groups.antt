@@ -1,11 +1,11 @@
--- What `count` prints and `sketch` writes of groups of lines.
-use Rattle.std.specs.Prelude.{ℕ, ◌≡◌, ◌++◌, Bool, true, false, List, [], ◌∷◌, Option, Some, None, unwrap_or, codes, flat_map}
+-- What is printed or written of groups.
+use Rattle.std.specs.Prelude.{ℕ, ◌≡◌, ◌++◌, List, [], ◌∷◌, Option, Some, None, unwrap_or, codes, flat_map}
 use Rattle.std.specs.List.{filter}
 use Rattle.std.specs.Str.Lossy.{utf8_lossy}
 use Rattle.core_compact.specs.CompactState.{Compact}
 use Rattle.theta_sketches.specs.Image.{written}
 use Rattle.keys_reports.specs.declared.report.Report.{Report}
-use Rattle.keys_reports.specs.Forms.{json_line, tsv_row}
+use Rattle.keys_reports.specs.Forms.{json_line, shown_line, tsv_row}
 use Rattle.keys_lines.specs.Lines.{lines_of_all}
 use Rattle.keys_lines.specs.declared.key.Key.{Key}
 use Rattle.keys_groups.specs.Groups.{AreGroups, group_sketch}
@@ -18,6 +18,8 @@ use Rattle.distinct_arguments.specs.declared.options.Order.TheVariants.{Name, Es
 use Rattle.distinct_arguments.specs.declared.options.Form.{Form}
 use Rattle.distinct_arguments.specs.declared.options.Form.TheVariants.{Plain, Tsv, Json}
 use Rattle.distinct_inputs.specs.Failures.{chosen_hashing}
+use Rattle.distinct_commands.specs.declared.groups.Listing.{Listing}
+use Rattle.distinct_commands.specs.declared.groups.Listing.TheVariants.{Counts, Images, Shown}
 use Rattle.distinct_commands.specs.Ranked.{AreRanked, reaches, first_items}
 use Rattle.distinct_commands.specs.Texts.{counted_line, report_by, head_of}
 
@@ -36,19 +38,27 @@ grouped_in Json line name report = json_line (Some (utf8_lossy name)) report
 abbrev pub group_text : OptionValues → (name : List ℕ) → Compact ℕ → List ℕ
 group_text options name s = grouped_in options.form (counted_line options (report_by options s)) name (report_by options s)
 
--- the line of a group: its count, or its image as a line has it, after its name as it is and a tab
-abbrev pub group_line : (images : Bool) → OptionValues → (name : List ℕ) → Compact ℕ → List ℕ
-group_line false options name s = group_text options name s
-group_line true options name s = image_line name (written s)
+-- what `show` prints of a group under its name: as plain text in UTF-8, with U+FFFD for what is not
+abbrev pub shown_group : Form → OptionValues → (name : List ℕ) → Compact ℕ → List ℕ
+shown_group Plain options name s = shown_line (utf8_lossy name) (report_by options s)
+shown_group Tsv options name s = group_text options name s
+shown_group Json options name s = group_text options name s
+
+-- the line of a group: its count, or its image as a line has it, after its name as it is and a tab, or what `show` prints of it
+abbrev pub group_line : Listing → OptionValues → (name : List ℕ) → Compact ℕ → List ℕ
+group_line Counts options name s = group_text options name s
+group_line Images options name s = image_line name (written s)
+group_line Shown options name s = shown_group options.form options name s
 
 -- the lines of the groups of these names, each with its sketch
-abbrev pub groups_text : (images : Bool) → OptionValues → (sketch : List ℕ → Compact ℕ) → (names : List (List ℕ)) → List ℕ
-groups_text images options sketch names = flat_map (λ name. group_line images options name (sketch name)) names
+abbrev pub groups_text : Listing → OptionValues → (sketch : List ℕ → Compact ℕ) → (names : List (List ℕ)) → List ℕ
+groups_text listing options sketch names = flat_map (λ name. group_line listing options name (sketch name)) names
 
 -- the head of the table of groups, if there is to be one
-abbrev pub groups_head : (images : Bool) → OptionValues → List ℕ
-groups_head true options = []
-groups_head false options = head_of options.form
+abbrev pub groups_head : Listing → OptionValues → List ℕ
+groups_head Counts options = head_of options.form
+groups_head Images options = []
+groups_head Shown options = head_of options.form
 
 -- the estimate that is printed of the group of a name
 abbrev pub group_estimate : OptionValues → (sketch : List ℕ → Compact ℕ) → (name : List ℕ) → ℕ
@@ -80,24 +90,24 @@ AreOrdered Name estimate names ordered = ordered ≡ names
 
 -- What is printed of the groups of these names and sketches, after the head: those that are counted are put into the order
 -- that is chosen, and each of the first ones, as many as `--top` says, or of all has a line.
-abbrev pub IsGroupsText : (images : Bool) → OptionValues → (sketch : List ℕ → Compact ℕ) → (names : List (List ℕ)) → List ℕ → Type 0
-IsGroupsText images options sketch names out =
+abbrev pub IsGroupsText : Listing → OptionValues → (sketch : List ℕ → Compact ℕ) → (names : List (List ℕ)) → List ℕ → Type 0
+IsGroupsText listing options sketch names out =
     (ordered : List (List ℕ))
     × AreOrdered (chosen_order options) (group_estimate options sketch) (counted_names options sketch names) ordered
-    × (out ≡ groups_head images options ++ groups_text images options sketch (first_items options.most ordered))
+    × (out ≡ groups_head listing options ++ groups_text listing options sketch (first_items options.most ordered))
 
 -- what is printed of the lines of texts by groups, each with the sketch of its own lines
-abbrev pub IsGroupedText : (images : Bool) → OptionValues → (seed : ℕ) → (by : Key) → (texts : List (List ℕ)) → List ℕ → Type 0
-IsGroupedText images options seed by texts out =
+abbrev pub IsGroupedText : Listing → OptionValues → (seed : ℕ) → (by : Key) → (texts : List (List ℕ)) → List ℕ → Type 0
+IsGroupedText listing options seed by texts out =
     (names : List (List ℕ))
     × AreGroups by (lines_of_all texts) names
-    × IsGroupsText images options (group_sketch (grouping_of options seed by) (lines_of_all texts)) names out
+    × IsGroupsText listing options (group_sketch (grouping_of options seed by) (lines_of_all texts)) names out
 
 -- what is printed of the groups of images in the lines of texts, each with the sketch of the union of its own images
-abbrev pub IsUnitedCount : OptionValues → (seed : ℕ) → (texts : List (List ℕ)) → List ℕ → Type 0
-IsUnitedCount options seed texts out =
+abbrev pub IsUnitedListing : Listing → OptionValues → (seed : ℕ) → (texts : List (List ℕ)) → List ℕ → Type 0
+IsUnitedListing listing options seed texts out =
     (names : List (List ℕ))
     × (sketch : List ℕ → Compact ℕ)
     × AreNames (lines_of_all texts) names
     × AreUnionSketches seed options.lg_k (lines_of_all texts) sketch
-    × IsGroupsText false options sketch names out
+    × IsGroupsText listing options sketch names out

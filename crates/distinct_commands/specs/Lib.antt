@@ -6,7 +6,6 @@ pub mod Visits
 pub mod Sums
 pub mod Ranked
 pub mod Groups
-pub mod Combined
 pub mod Similarity
 pub mod Answers
 pub mod Operands

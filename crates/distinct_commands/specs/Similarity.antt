@@ -16,7 +16,7 @@ use Rattle.distinct_arguments.specs.Settings.{OptionValues}
 use Rattle.distinct_arguments.specs.declared.options.Form.{Form}
 use Rattle.distinct_arguments.specs.declared.options.Form.TheVariants.{Plain, Tsv, Json}
 use Rattle.distinct_inputs.specs.Images.{images_of}
-use Rattle.distinct_commands.specs.Combined.{intersection_of, difference_of}
+use Rattle.keys_joins.specs.Joins.{intersection_of, difference_of}
 use Rattle.distinct_commands.specs.Texts.{chosen_deviations}
 
 -- how many of two sketches aren't empty

@@ -9,12 +9,11 @@ ghost use Rattle.distinct_arguments.specs.Faults.{options_of};
 ghost use Rattle.distinct_arguments.specs.Settings.{OptionValues};
 ghost use Rattle.distinct_arguments.specs.declared.commands.Operator.{Operator};
 ghost use Rattle.distinct_commands.specs.Answers.{IsCombinedOf, IsExpected, IsUnionOf};
-ghost use Rattle.distinct_commands.specs.Combined.{intersection_of, difference_of};
+ghost use Rattle.keys_joins.specs.Joins.{intersection_of, difference_of};
 ghost use Rattle.distinct_inputs.specs.Images.{remaining_images, HasNoSketch, ReadsNext};
 ghost use Rattle.distinct_inputs.specs.Failures.{chosen_summary, images_in, unites_sums, AreCounted, IsOfImages, IsOfCombining};
-ghost use Rattle.distinct_inputs.specs.Failures.{IsOfEitherUnion, IsOfUniting, NotesNextFile};
-ghost use Rattle.distinct_commands.specs.Showing.{NamesFile, PassesNext};
-ghost use Rattle.distinct_messages.specs.Failures.{display_name, UnreadableIf};
+ghost use Rattle.distinct_inputs.specs.Failures.{IsOfEitherUnion, IsOfUniting};
+ghost use Rattle.distinct_messages.specs.Failures.{UnreadableIf};
 ghost use Rattle.distinct_inputs.specs.Failures.{ReportsNoSketch, ReportsPastUnion};
 ghost use Rattle.distinct_arguments.specs.declared.commands.Operator.TheVariants.{Union};
 ghost use Rattle.distinct_inputs.specs.Seeds.{AreSeeded};
@@ -59,7 +58,7 @@ pub fn image_failure<S: Sources>(
 }
 
 /// The sketch of the next image, of this seed, or `None` at the end. It fails if memory is refused, a file can't be
-/// read, or the bytes aren't an image; the next image is then that behind these bytes, or that of the next file.
+/// read, or the bytes aren't an image.
 pub fn next_sketch<S: Sources>(
     alloc: Global,
     seed: u64,
@@ -71,11 +70,6 @@ pub fn next_sketch<S: Sources>(
         (remaining_images S.Source.remaining S.texts images.old)
         (remaining_images S.Source.remaining S.texts images.new)) }
     ensures failed { IfErr result (IsOfImages false hex seed (remaining_images S.Source.remaining S.texts images.old)) }
-    ensures passes { IfErr result (PassesNext seed
-        (remaining_images S.Source.remaining S.texts images.old)
-        (remaining_images S.Source.remaining S.texts images.new)) }
-    ensures advances { NotesNextFile images.old images.new }
-    ensures names { hex ≡ false → IfErr result (NamesFile (display_name images.new.inputs.current.now)) }
     ensures fallible { IfErr result (UnreadableIf S.may_fail) }
 {
     match images.next_image() {
@@ -84,11 +78,7 @@ pub fn next_sketch<S: Sources>(
             Err(error) => Err(image_failure(images, false, hex, error)),
         },
         Ok(None) => Ok(None),
-        Err(error) => {
-            let failure = images.read_failure(error);
-            images.leave();
-            Err(failure)
-        }
+        Err(error) => Err(images.read_failure(error)),
     }
 }
 

@@ -5,23 +5,22 @@ ghost use Rattle.sketch_base.specs.Seed.{seed_hash};
 ghost use Rattle.theta_sketches.specs.Image.{written};
 ghost use Rattle.distinct_arguments.specs.Faults.{options_of, request_action};
 ghost use Rattle.distinct_arguments.specs.Settings.{chosen_group};
-ghost use Rattle.distinct_commands.specs.Answers.{sketch_of, lines_text, IsCountText, IsLinesText, IsSketchText};
-ghost use Rattle.distinct_commands.specs.Answers.{IsCommandAnswer, IsWholeAnswer, WritesAnswer, Performs};
+ghost use Rattle.distinct_commands.specs.Answers.{sketch_of, lines_text, listing_of, IsCountText, IsLinesText, IsSketchText};
+ghost use Rattle.distinct_commands.specs.Answers.{IsCommandAnswer, IsShowText, IsWholeAnswer, WritesAnswer, Performs};
 ghost use Rattle.distinct_commands.specs.Showing.{AreOfOne};
 ghost use Rattle.distinct_inputs.specs.Lists.{names_of};
 ghost use Rattle.distinct_inputs.specs.Images.{in_form};
-ghost use Rattle.distinct_commands.specs.Failing.{IsOfCommand, IsOfCount, IsOfOperands, IsOfAnswer, IsOfRequest};
+ghost use Rattle.distinct_commands.specs.Failing.{IsOfCommand, IsOfCount, IsOfShow, IsOfOperands, IsOfAnswer, IsOfRequest};
 ghost use Rattle.distinct_commands.specs.Operands.{words_in, Suits, SuitsAction};
 ghost use Rattle.distinct_messages.specs.Failures.{UnreadableIf};
 ghost use Rattle.distinct_inputs.specs.Failures.{chosen_amount, IsOfReading, IsOfSketch, IsUnwritten};
 ghost use Rattle.distinct_messages.specs.declared.failure.Failure.TheVariants as failure;
 
 use crate::expression::Operands;
-use crate::groups::GroupPrinter;
+use crate::groups::{GroupPrinter, Listing};
 use crate::job::{Answer, Job};
 use crate::show::count_text;
 use crate::sums::chosen_amount;
-use crate::united::unites_groups;
 use distinct_arguments::{Command, Fault, Options, Request, text_of};
 use distinct_inputs::Inputs;
 use distinct_messages::{Console, Failure, out_of_memory, put};
@@ -179,6 +178,17 @@ fn whole(alloc: Global, bytes: Vec<u8>) -> Answer
     }
 }
 
+/// How the groups of lines are listed: by their images, or by their counts.
+fn listing_of(images: bool) -> Listing
+    ensures { result ≡ listing_of images }
+{
+    if images {
+        Listing::Images
+    } else {
+        Listing::Counts
+    }
+}
+
 /// What `count` prints of a sketch of lines, or its image as it is written.
 fn lines_text(
     alloc: Global,
@@ -222,12 +232,35 @@ impl<'a, S: Sources + Drop> Job<'a, S> {
                 if files.is_empty() {
                     return Err(Failure::NoFiles);
                 }
-                self.show_inputs(files)
+                self.show_either(files, console)
             }
             _ => match self.whole_answer(command, files, console) {
                 Ok(bytes) => Ok(whole(alloc, bytes)),
                 Err(failure) => Err(failure),
             },
+        }
+    }
+
+    /// What `show` prints of the files of these names, which are those of the sources, and passes over: of the images in
+    /// them, or of the groups of images.
+    fn show_either<C: Console>(self, files: &[String], console: &mut C) -> Result<Answer, Failure>
+        requires seeded { seed_hash self.seed ≢ 0 }
+        requires named { self.inputs.left.now ≡ files.now }
+        ensures shown { IfSome (S.texts self.entry.inputs.sources) (λ texts. IfOk result (λ a.
+            IsShowText self.entry.options.now.groups (options_of self.entry.options.now) self.entry.seed
+            (names_of files.now) texts a.bytes.items a.passed.items)) }
+        ensures passed { IfOk result (λ a. AreOfOne S.may_fail a.passed.items) }
+        ensures failed { IfErr result
+            (IsOfShow self.entry.options.now.groups self.entry.seed (S.texts self.entry.inputs.sources)) }
+        ensures fallible { IfErr result (UnreadableIf S.may_fail) }
+    {
+        let alloc = self.alloc;
+        if !self.options.groups {
+            return self.show_inputs(files, console);
+        }
+        match self.list_unions(Listing::Shown, console) {
+            Ok(bytes) => Ok(whole(alloc, bytes)),
+            Err(failure) => Err(failure),
         }
     }
 
@@ -256,8 +289,8 @@ impl<'a, S: Sources + Drop> Job<'a, S> {
                 if files.is_empty() {
                     return Err(Failure::NoFiles);
                 }
-                if unites_groups(operator, options) {
-                    return self.unite_inputs(console);
+                if options.groups {
+                    return self.combine_groups(files.len(), operator, console);
                 }
                 let combined = self.combine_inputs(files.len(), operator, console)?;
                 in_form(alloc, options.hex, combined)
@@ -292,7 +325,7 @@ impl<'a, S: Sources + Drop> Job<'a, S> {
         if files.is_empty() {
             return Err(Failure::NoFiles);
         }
-        self.count_unions(console)
+        self.list_unions(Listing::Counts, console)
     }
 
     /// What `count` prints, or `sketch` writes, of the lines of all sources in turn, by groups if the options say so.
@@ -311,7 +344,7 @@ impl<'a, S: Sources + Drop> Job<'a, S> {
                 let printer = GroupPrinter {
                     alloc,
                     options,
-                    images,
+                    listing: listing_of(images),
                 };
                 printer.table(&mut groups)
             }

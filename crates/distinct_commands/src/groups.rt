@@ -1,4 +1,4 @@
-//! What `count` prints and `sketch` writes of groups of lines.
+//! What is printed or written of groups.
 ghost use Rattle.std.specs.Prelude.{◌≡◌, ◌≢◌, ◌++◌, ℕ, List, IfOk, IfErr, IfSome, string_bytes};
 ghost use Rattle.sketch_base.specs.Seed.{seed_hash};
 ghost use Rattle.keys_lines.specs.Lines.{lines_of_all};
@@ -8,7 +8,7 @@ ghost use Rattle.distinct_arguments.specs.Faults.{options_of};
 ghost use Rattle.distinct_messages.specs.Failures.{UnreadableIf};
 ghost use Rattle.distinct_inputs.specs.Failures.{IsOfReading};
 ghost use Rattle.keys_groups.specs.Files.{AreFilesOf};
-ghost use Rattle.distinct_commands.specs.Groups.{grouping_of, group_text, group_line, groups_text, groups_head};
+ghost use Rattle.distinct_commands.specs.Groups.{grouping_of, group_text, group_line, groups_text, groups_head, shown_group};
 ghost use Rattle.distinct_commands.specs.Groups.{group_estimate, chosen_order, counted_names, AreOrdered, IsNextCounted};
 ghost use Rattle.distinct_commands.specs.Groups.{IsGroupsText};
 ghost use Rattle.distinct_commands.specs.Ranked.{AreRanked, first_items, reaches};
@@ -26,10 +26,21 @@ use keys_groups::{
     Group, GroupFile, Grouping, Groups, SketchedGroups, files_of, group_sources, image_line,
 };
 use keys_lines::{Hashing, Key};
-use keys_reports::{json_line, report_of, tsv_row};
+use keys_reports::{json_line, report_of, shown_line, tsv_row};
 use keys_sketches::{ReadError, Sources};
 use std::alloc::{AllocError, Global};
 use theta_sketches::CompactThetaSketch;
+
+/// What the line of a group has.
+#[derive(Clone, Copy, Debug, PartialEq, Eq)]
+pub enum Listing {
+    /// Its count.
+    Counts,
+    /// Its image, as a line has it.
+    Images,
+    /// What `show` prints of it.
+    Shown,
+}
 
 /// What is printed of the count of a group of this name.
 fn group_text(
@@ -61,6 +72,28 @@ fn group_text(
     }
 }
 
+/// What `show` prints of a group of this name.
+fn shown_group(
+    alloc: Global,
+    options: &Options<'_>,
+    name: &[u8],
+    sketch: &CompactThetaSketch,
+) -> Result<Vec<u8>, AllocError>
+    ensures { IfOk result (λ text.
+        text.items ≡ shown_group options.now.form (options_of options.now) name.now sketch.now) }
+{
+    match options.form {
+        Form::Plain => {
+            let report = report_of(sketch, chosen_deviations(options));
+            let name = String::from_utf8_lossy(alloc, name)?;
+            let line = shown_line(alloc, name.as_str(), report)?;
+            Ok(line.into_bytes())
+        }
+        Form::Tsv => group_text(alloc, options, name, sketch),
+        Form::Json => group_text(alloc, options, name, sketch),
+    }
+}
+
 /// Whether a group with this sketch is printed: whether its estimate is at least that of `--min`, if there is one.
 fn is_counted(options: &Options<'_>, sketch: &CompactThetaSketch) -> bool
     ensures { result ≡ reaches (options_of options.now).least (report_by (options_of options.now) sketch.now).estimate }
@@ -74,27 +107,30 @@ fn is_counted(options: &Options<'_>, sketch: &CompactThetaSketch) -> bool
     }
 }
 
-/// How groups are printed: each by its image, or by its count in the form that options choose. Of those whose estimate
+/// How groups are printed, in the form that options choose. Of those whose estimate
 /// is at least that of `--min` the first ones are printed, as many as `--top` says, or all.
 #[derive(Clone, Copy)]
 pub struct GroupPrinter<'a> {
     pub alloc: Global,
     pub options: &'a Options<'a>,
-    pub images: bool,
+    pub listing: Listing,
 }
 
 impl<'a> GroupPrinter<'a> {
-    /// The line of a group of this name: its image, or its count. It fails if memory is refused.
+    /// The line of a group of this name. It fails if memory is refused.
     fn line(self, name: &[u8], sketch: &CompactThetaSketch) -> Result<Vec<u8>, Failure>
         ensures line { IfOk result (λ text.
-            text.items ≡ group_line self.entry.images (options_of self.entry.options.now) name.now sketch.now) }
+            text.items ≡ group_line self.entry.listing (options_of self.entry.options.now) name.now sketch.now) }
         ensures memory { IfErr result (λ f. f ≡ failure.Memory) }
     {
-        if !self.images {
-            return Ok(group_text(self.alloc, self.options, name, sketch)?);
+        match self.listing {
+            Listing::Counts => Ok(group_text(self.alloc, self.options, name, sketch)?),
+            Listing::Images => {
+                let image = image_to_put(sketch)?;
+                Ok(image_line(self.alloc, name, image.as_slice())?)
+            }
+            Listing::Shown => Ok(shown_group(self.alloc, self.options, name, sketch)?),
         }
-        let image = image_to_put(sketch)?;
-        Ok(image_line(self.alloc, name, image.as_slice())?)
     }
 
     /// Takes out the groups that are left up to the first whose estimate is at least that of `--min`, and returns it,
@@ -127,7 +163,7 @@ impl<'a> GroupPrinter<'a> {
         ensures printed { (sketch : List ℕ → Compact ℕ) (names : List (List ℕ))
             → G.lists sketch names groups.old
             → IfOk result (λ v.
-            v.items ≡ groups_text self.entry.images (options_of self.entry.options.now) sketch
+            v.items ≡ groups_text self.entry.listing (options_of self.entry.options.now) sketch
             (first_items (options_of self.entry.options.now).most
             (counted_names (options_of self.entry.options.now) sketch names))) }
         ensures memory { IfErr result (λ f. f ≡ failure.Memory) }
@@ -158,7 +194,7 @@ impl<'a> GroupPrinter<'a> {
             r.estimate ≡ (report_by (options_of self.entry.options.now) group.sketch).estimate) }
         ensures text { IfOk result (λ r.
             r.text.items
-            ≡ group_line self.entry.images (options_of self.entry.options.now) group.name.items group.sketch) }
+            ≡ group_line self.entry.listing (options_of self.entry.options.now) group.name.items group.sketch) }
         ensures memory { IfErr result (λ f. f ≡ failure.Memory) }
     {
         let Group { name, sketch } = group;
@@ -179,7 +215,7 @@ impl<'a> GroupPrinter<'a> {
             → IfOk result (λ v. (ordered : List (List ℕ))
             × AreRanked (group_estimate (options_of self.entry.options.now) sketch)
             (counted_names (options_of self.entry.options.now) sketch names) ordered
-            × (v.items ≡ groups_text self.entry.images (options_of self.entry.options.now) sketch
+            × (v.items ≡ groups_text self.entry.listing (options_of self.entry.options.now) sketch
             (first_items (options_of self.entry.options.now).most ordered))) }
         ensures memory { IfErr result (λ f. f ≡ failure.Memory) }
     {
@@ -206,7 +242,7 @@ impl<'a> GroupPrinter<'a> {
             × AreOrdered (chosen_order (options_of self.entry.options.now))
             (group_estimate (options_of self.entry.options.now) sketch)
             (counted_names (options_of self.entry.options.now) sketch names) ordered
-            × (v.items ≡ groups_text self.entry.images (options_of self.entry.options.now) sketch
+            × (v.items ≡ groups_text self.entry.listing (options_of self.entry.options.now) sketch
             (first_items (options_of self.entry.options.now).most ordered))) }
         ensures memory { IfErr result (λ f. f ≡ failure.Memory) }
     {
@@ -219,9 +255,9 @@ impl<'a> GroupPrinter<'a> {
     /// The head of a table of groups, if there is to be one.
     fn head(self) -> Result<String, AllocError>
         ensures { IfOk result (λ text.
-            string_bytes text ≡ groups_head self.entry.images (options_of self.entry.options.now)) }
+            string_bytes text ≡ groups_head self.entry.listing (options_of self.entry.options.now)) }
     {
-        if self.images {
+        if self.listing == Listing::Images {
             Ok(String::new(self.alloc))
         } else {
             head_of(self.alloc, self.options.form)
@@ -235,7 +271,7 @@ impl<'a> GroupPrinter<'a> {
         ensures printed { (sketch : List ℕ → Compact ℕ) (names : List (List ℕ))
             → G.lists sketch names groups.old
             → IfOk result (λ v.
-            IsGroupsText self.entry.images (options_of self.entry.options.now) sketch names v.items) }
+            IsGroupsText self.entry.listing (options_of self.entry.options.now) sketch names v.items) }
         ensures memory { IfErr result (λ f. f ≡ failure.Memory) }
     {
         let head = self.head()?;

@@ -5,7 +5,7 @@ ghost use Rattle.distinct_arguments.specs.Faults.{options_of};
 ghost use Rattle.distinct_inputs.specs.Seeds.{AreSeeded};
 ghost use Rattle.distinct_messages.specs.Failures.{UnreadableIf};
 ghost use Rattle.distinct_messages.specs.declared.failure.Failure.TheVariants as failure;
-ghost use Rattle.distinct_commands.specs.Combined.{intersection_of, difference_of};
+ghost use Rattle.keys_joins.specs.Joins.{intersection_of, difference_of};
 ghost use Rattle.distinct_commands.specs.Failing.{IsOfPair};
 ghost use Rattle.distinct_commands.specs.Similarity.{nonempty_of, overlap_of, similarity_in, similarity_text, IsComparedOf};
 

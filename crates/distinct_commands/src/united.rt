@@ -1,27 +1,26 @@
-//! What `union` writes and `count` prints of images by groups.
+//! What `union`, `meet` and `minus` write, and `count` and `show` print, of images by groups.
 ghost use Rattle.std.specs.Prelude.{◌≡◌, ◌≢◌, ◌≤◌, ◌<◌, ◌^◌, ℕ, List, Option, IfOk, IfErr, IfSome, IfNone, Bool};
 ghost use Rattle.sketch_base.specs.Seed.{seed_hash};
 ghost use Rattle.keys_lines.specs.Lines.{lines_of_all};
-ghost use Rattle.keys_groups.specs.United.{AreSound, HasFirstFlawed, HasUnions, IsUnitedText};
+ghost use Rattle.keys_groups.specs.United.{AreSound, FailsIf, HasFirstFlawed, HasUnions, IsUnitedText};
 ghost use Rattle.distinct_arguments.specs.Faults.{options_of};
 ghost use Rattle.distinct_messages.specs.Failures.{UnreadableIf};
-ghost use Rattle.distinct_inputs.specs.Failures.{unites_groups, IsOfGroups, ReportsFlawed};
-ghost use Rattle.distinct_commands.specs.Groups.{IsUnitedCount};
+ghost use Rattle.distinct_inputs.specs.Failures.{IsOfGroups, ReportsFlawed};
+ghost use Rattle.keys_joins.specs.Joins.{IsMeetText, IsMinusText};
+ghost use Rattle.keys_joins.specs.Reading.{HasFlawedIn, IsJoinError};
+ghost use Rattle.distinct_commands.specs.Answers.{IsCombinedGroups};
+ghost use Rattle.distinct_commands.specs.Failing.{IsOfJoin, IsOfMinus, IsOfCombinedGroups};
+ghost use Rattle.distinct_commands.specs.Groups.{IsUnitedListing};
 
-use crate::groups::GroupPrinter;
+use crate::groups::{GroupPrinter, Listing};
 use crate::job::Job;
-use distinct_arguments::{Operator, Options};
+use distinct_arguments::Operator;
+use distinct_inputs::Inputs;
 use distinct_messages::{Coarser, Console, Failure, Remark, display_name, out_of_memory};
 use keys_groups::{LineFlaw, UniteError, UnitedGroups, unite_groups, united_text};
+use keys_joins::{meet_groups, minus_groups};
 use keys_sketches::Sources;
 use std::alloc::Global;
-
-/// Whether images are united by the groups of their lines.
-pub fn unites_groups(operator: Operator, options: &Options<'_>) -> bool
-    ensures { result ≡ unites_groups operator (options_of options.now) }
-{
-    operator == Operator::Union && options.groups
-}
 
 /// The failure for a line with this flaw: its number, from 1, and the name of its file in messages.
 fn line_failure(alloc: Global, name: &str, line: u64, flaw: LineFlaw) -> Failure
@@ -29,6 +28,9 @@ fn line_failure(alloc: Global, name: &str, line: u64, flaw: LineFlaw) -> Failure
     ensures of_groups { (seed : ℕ) (texts : Option (List (List ℕ)))
         → IfSome texts (HasFirstFlawed seed line flaw)
         → IsOfGroups seed texts result }
+    ensures of_join { (seed : ℕ) (texts : Option (List (List ℕ)))
+        → IfSome texts (HasFlawedIn seed line flaw)
+        → IsOfJoin seed texts result }
     ensures fallible { (may_fail : Bool) → UnreadableIf may_fail result }
 {
     let Ok(name) = String::from_str(alloc, name) else {
@@ -70,6 +72,20 @@ fn name_at(names: &[String], number: u64) -> &str {
 fn remark_coarser<C: Console>(name: &str, retained: u64, lg_k: u8, console: &mut C) {
     if let Some(coarser) = warning_of(name, retained, lg_k) {
         console.remark(Remark::Coarser(coarser));
+    }
+}
+
+/// The failure of files of groups that were not joined.
+fn join_failure<S: Sources>(alloc: Global, inputs: &Inputs<'_, S>, error: UniteError) -> Failure
+    ensures failed { (seed : ℕ) (texts : Option (List (List ℕ)))
+        → IsJoinError seed texts error
+        → IsOfJoin seed texts result }
+    ensures fallible { FailsIf S.may_fail error → UnreadableIf S.may_fail result }
+{
+    match error {
+        UniteError::Failed(error) => inputs.read_failure(alloc, error),
+        UniteError::Flawed(line, flaw) => line_failure(alloc, inputs.name(), line, flaw),
+        UniteError::Refused(_) => Failure::Memory,
     }
 }
 
@@ -121,12 +137,15 @@ impl<'a, S: Sources + Drop> Job<'a, S> {
         }
     }
 
-    /// What `count` prints of the groups of all lines, each with the union of its images. It fails as `unite_inputs`
-    /// does.
-    pub fn count_unions<C: Console>(self, console: &mut C) -> Result<Vec<u8>, Failure>
+    /// What is printed of the groups of all lines, each with the union of its images. It fails as `unite_inputs` does.
+    pub fn list_unions<C: Console>(
+        self,
+        listing: Listing,
+        console: &mut C,
+    ) -> Result<Vec<u8>, Failure>
         requires seeded { seed_hash self.seed ≢ 0 }
-        ensures counted { IfSome (S.texts self.entry.inputs.sources) (λ texts.
-            IfOk result (λ v. IsUnitedCount (options_of self.entry.options.now) self.entry.seed texts v.items)) }
+        ensures listed { IfSome (S.texts self.entry.inputs.sources) (λ texts.
+            IfOk result (λ v. IsUnitedListing listing (options_of self.entry.options.now) self.entry.seed texts v.items)) }
         ensures failed { IfErr result (IsOfGroups self.entry.seed (S.texts self.entry.inputs.sources)) }
         ensures fallible { IfErr result (UnreadableIf S.may_fail) }
     {
@@ -135,8 +154,64 @@ impl<'a, S: Sources + Drop> Job<'a, S> {
         let printer = GroupPrinter {
             alloc,
             options,
-            images: false,
+            listing,
         };
         printer.table(&mut groups)
+    }
+    /// A line for each group that all files have, with the image of the intersection.
+    fn meet_inputs(self) -> Result<Vec<u8>, Failure>
+        requires seeded { seed_hash self.seed ≢ 0 }
+        ensures met { IfSome (S.texts self.entry.inputs.sources) (λ texts.
+            IfOk result (λ v. IsMeetText self.entry.seed self.entry.options.now.lg_k texts v.items)) }
+        ensures failed { IfErr result (IsOfJoin self.entry.seed (S.texts self.entry.inputs.sources)) }
+        ensures fallible { IfErr result (UnreadableIf S.may_fail) }
+    {
+        let (alloc, options, seed) = (self.alloc, self.options, self.seed);
+        let mut inputs = self.inputs;
+        match meet_groups(alloc, seed, options.lg_k, &mut inputs) {
+            Ok(text) => Ok(text),
+            Err(error) => Err(join_failure(alloc, &inputs, error)),
+        }
+    }
+
+    /// A line for each group of the first of two files, with the image of the difference.
+    fn minus_inputs(self, count: usize) -> Result<Vec<u8>, Failure>
+        requires seeded { seed_hash self.seed ≢ 0 }
+        ensures difference { IfSome (S.texts self.entry.inputs.sources) (λ texts.
+            IfOk result (λ v. IsMinusText self.entry.seed self.entry.options.now.lg_k texts v.items)) }
+        ensures failed { IfErr result (IsOfMinus self.entry.seed count (S.texts self.entry.inputs.sources)) }
+        ensures fallible { IfErr result (UnreadableIf S.may_fail) }
+    {
+        if count != 2 {
+            return Err(Failure::NotTwo);
+        }
+        let (alloc, options, seed) = (self.alloc, self.options, self.seed);
+        let mut inputs = self.inputs;
+        match minus_groups(alloc, seed, options.lg_k, &mut inputs) {
+            Ok(Some(text)) => Ok(text),
+            Ok(None) => Err(Failure::NotTwo),
+            Err(error) => Err(join_failure(alloc, &inputs, error)),
+        }
+    }
+
+    /// A line for each group of the result of an operator on the groups of images in `count` files.
+    pub fn combine_groups<C: Console>(
+        self,
+        count: usize,
+        operator: Operator,
+        console: &mut C,
+    ) -> Result<Vec<u8>, Failure>
+        requires seeded { seed_hash self.seed ≢ 0 }
+        ensures combined { IfSome (S.texts self.entry.inputs.sources) (λ texts.
+            IfOk result (λ v. IsCombinedGroups operator self.entry.seed self.entry.options.now.lg_k texts v.items)) }
+        ensures failed { IfErr result
+            (IsOfCombinedGroups operator self.entry.seed count (S.texts self.entry.inputs.sources)) }
+        ensures fallible { IfErr result (UnreadableIf S.may_fail) }
+    {
+        match operator {
+            Operator::Union => self.unite_inputs(console),
+            Operator::Meet => self.meet_inputs(),
+            Operator::Minus => self.minus_inputs(count),
+        }
     }
 }

@@ -1,3 +1,4 @@
+mod AnySeeds
 mod ImageLines
 pub mod ListNames
 mod SeedFiles

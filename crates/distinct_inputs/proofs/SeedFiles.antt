@@ -1,5 +1,5 @@
 -- Seeds that the bytes of files spell.
-use Rattle.std.proofs.Common.{◌≡◌, ℕ, true, false, cond, eqb, leb, not, List, [], ◌∷◌, length, drop, Option, Some, None, refl, ap, arith}
+use Rattle.std.proofs.Common.{◌≡◌, ℕ, true, false, cond, eqb, leb, not, List, [], ◌∷◌, length, drop, Some, None, refl, ap, arith}
 use Rattle.std.specs.Prelude.{◌<◌, ◌&&◌, IsUtf8}
 use Rattle.std.specs.Char.{is_ascii_whitespace}
 use Rattle.std.specs.List.{prefix_len, AllByRecursion}

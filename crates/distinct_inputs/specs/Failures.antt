@@ -225,12 +225,6 @@ IsOfUniting sums seed images (Failed error) = ⊤
 IsOfUniting sums seed images (Refused error) =
     (error ≡ OutOfMemory) ⊎ (((error ≡ Policy) × (sums ≡ true)) ⊎ ((error ≡ InvalidData) × HasNoSketch sums seed images))
 
--- images are united by the groups of their lines
-abbrev pub unites_groups : Operator → OptionValues → Bool
-unites_groups Union options = options.groups
-unites_groups Meet options = false
-unites_groups Minus options = false
-
 -- images are of sums
 abbrev pub unites_sums : Operator → OptionValues → Bool
 unites_sums Union options = options.sums
@@ -244,11 +238,6 @@ IsOfCombining operator options seed count texts NotTwo = (operator ≡ Minus) ×
 IsOfCombining operator options seed count texts (PastUnion name line) = options.sums ≡ true
 IsOfCombining operator options seed count texts failure =
     IsOfUnion options.expected (unites_sums operator options) options.hex seed (images_in (unites_sums operator options) options texts) failure
-
--- .. or groups of them can't be united
-abbrev pub IsOfOperator : (by_groups : Bool) → Operator → OptionValues → (seed count : ℕ) → (texts : Option (List (List ℕ))) → Failure → Type 0
-IsOfOperator true operator options seed count texts failure = IsOfGroups seed texts failure
-IsOfOperator false operator options seed count texts failure = IsOfCombining operator options seed count texts failure
 
 -- nothing was written to the writer, or it is the writer that failed
 abbrev pub IsUnwritten : (old new : Option (List ℕ)) → Failure → Type 0

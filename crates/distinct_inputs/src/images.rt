@@ -1,18 +1,20 @@
 //! The images in files: a file is one image and nothing else, or each of its lines is one in hexadecimal, with blanks
 //! allowed around it.
-ghost use Rattle.std.specs.Prelude.{◌≡◌, ◌≤◌, ◌<◌, ◌^◌, ℕ, List, Option, true, false, Some, None, IfOk, IfSome};
+ghost use Rattle.std.specs.Prelude.{◌≡◌, ◌≢◌, ◌≤◌, ◌<◌, ◌^◌, ℕ, List, Option, true, false, Some, None, IfOk, IfSome};
 ghost use Rattle.std.specs.Prelude.{IfNone, OnOk, max, nat_lt, if◌then◌else◌, Bool};
 ghost use Rattle.sketch_base.specs.Seed.{seed_hash};
 ghost use Rattle.keys_sketches.specs.Sources.{GivesNext};
 ghost use Rattle.distinct_inputs.specs.Images.{remaining_images, remaining_parts, only_image, image_flaw, is_followed};
+ghost use Rattle.distinct_inputs.specs.AnySeed.{reader_hash};
 ghost use Rattle.distinct_inputs.specs.Images.{length_of, count_of, line_image};
 ghost use Rattle.distinct_inputs.specs.Images.{CountsLine, HasNoSketch, IsOnlyImage, GivesOrCloses, IsSameReader};
 ghost use Rattle.distinct_messages.specs.Failures.{display_name, UnreadableIf};
 ghost use Rattle.distinct_inputs.specs.Failures.{IsOfImages, IsOfReading, NotesNext, NotesNextFile, ReportsUnreadable};
 ghost use Rattle.distinct_inputs.specs.Failures.{ReportsNoSketch, ReportsPastUnion};
 
+use crate::any_seed::reader_hash;
 use crate::inputs::Inputs;
-use distinct_messages::{Coarser, Failure};
+use distinct_messages::{Coarser, Failure, OtherSeed};
 use keys_sketches::{
     Flaw, ImageFlaw, Sources, entry_count, flaw_of, image_length, read_hex, read_line, sums_count,
     sums_flaw_of, sums_length,
@@ -21,6 +23,7 @@ use sketch_base::{ErrorKind as KindOfError, compute_seed_hash};
 use std::alloc::Global;
 use std::io;
 use std::io::{BufReader, Cursor, ErrorKind, Read};
+use theta_sketches::CompactThetaSketch;
 
 /// The hash of a seed; 0 if no image can be read under the seed.
 fn hash_of_seed(seed: u64) -> u16
@@ -29,11 +32,10 @@ fn hash_of_seed(seed: u64) -> u16
     compute_seed_hash(seed, KindOfError::InvalidArgument).unwrap_or(0)
 }
 
-/// Why the bytes are not one image that is read under this seed: of a sketch of sums, or of a theta sketch.
-fn flaw_in(sums: bool, bytes: &[u8], seed: u64) -> Flaw
-    ensures { result ≡ image_flaw sums (seed_hash seed) bytes.now }
+/// Why the bytes are not one image that is read under this seed hash: of a sketch of sums, or of a theta sketch.
+fn flaw_in(sums: bool, bytes: &[u8], hash: u16) -> Flaw
+    ensures { result ≡ image_flaw sums hash bytes.now }
 {
-    let hash = hash_of_seed(seed);
     if sums {
         sums_flaw_of(bytes, hash)
     } else {
@@ -85,6 +87,8 @@ pub struct Images<'a, S: Sources> {
     open: Option<BufReader<S::Source>>,
     line: u64,
     seed: u64,
+    /// Whether images of other seeds are read, too.
+    any_seed: bool,
     /// What is wrong with the last image, if something is; `None` if a line isn't hexadecimal.
     flaw: Option<Flaw>,
     /// The most hashes that an image retains, and the name of its file.
@@ -126,6 +130,31 @@ impl<'a, S: Sources> Images<'a, S> {
             open: None,
             line: 0,
             seed,
+            any_seed: false,
+            flaw: None,
+            most: 0,
+            most_name: "",
+        }
+    }
+
+    /// The images of theta sketches in these files, to be read whatever their seeds are. One that has no seed hash is
+    /// read under this seed.
+    pub fn of_any_seed(alloc: Global, inputs: Inputs<'a, S>, hex: bool, seed: u64) -> Images<'a, S>
+        ensures inputs { result.inputs ≡ inputs.entry }
+        ensures sums { result.sums ≡ false }
+        ensures hex { result.hex ≡ hex }
+        ensures seed { result.seed ≡ seed }
+        ensures closed { result.«open» ≡ None }
+    {
+        Images {
+            alloc,
+            inputs,
+            sums: false,
+            hex,
+            open: None,
+            line: 0,
+            seed,
+            any_seed: true,
             flaw: None,
             most: 0,
             most_name: "",
@@ -186,6 +215,22 @@ impl<'a, S: Sources> Images<'a, S> {
         }
     }
 
+    /// The remark that the image that was read last, which is that of this sketch, was made with another seed, if it has
+    /// another seed hash.
+    pub fn other_seed(&self, sketch: &CompactThetaSketch) -> Option<OtherSeed<'a>>
+        ensures some { IfSome result (λ r. (sketch.now.seed_hash ≢ seed_hash self.now.seed)
+            × (r.line ≡ self.now.line) × (r.name.now ≡ display_name self.now.inputs.current.now)) }
+        ensures none { IfNone result (sketch.now.seed_hash ≡ seed_hash self.now.seed) }
+    {
+        if sketch.seed_hash() == hash_of_seed(self.seed) {
+            return None;
+        }
+        Some(OtherSeed {
+            name: self.name(),
+            line: self.line,
+        })
+    }
+
     /// The remark on the image that retains the most hashes, if these are more than 2^`lg_k`.
     pub fn coarser(&self, lg_k: u8) -> Option<Coarser<'a>>
         ensures some { IfSome result (λ c.
@@ -206,7 +251,8 @@ impl<'a, S: Sources> Images<'a, S> {
 
     /// Notes what the preamble of an image says.
     fn note(&mut self, image: &[u8])
-        ensures flaw { self.new.flaw ≡ Some (image_flaw self.old.sums (seed_hash self.old.seed) image.now) }
+        ensures flaw { self.new.flaw ≡ Some (image_flaw self.old.sums
+            (reader_hash self.old.any_seed (seed_hash self.old.seed) image.now) image.now) }
         ensures same { IsSameReader self.old self.new }
         ensures left { remaining_parts S.Source.remaining S.texts self.new
             ≡ remaining_parts S.Source.remaining S.texts self.old }
@@ -216,7 +262,8 @@ impl<'a, S: Sources> Images<'a, S> {
             then display_name self.old.inputs.current.now
             else self.old.most_name.now) }
     {
-        self.flaw = Some(flaw_in(self.sums, image, self.seed));
+        let hash = reader_hash(self.any_seed, hash_of_seed(self.seed), image);
+        self.flaw = Some(flaw_in(self.sums, image, hash));
         let count = if self.sums {
             sums_count(image)
         } else {

@@ -10,6 +10,7 @@ use crate::lists::{ListError, names_in};
 use distinct_arguments::Share;
 use distinct_messages::{Failure, NoLines, Remark, display_name, nature_of};
 use keys_parts::{Part, Places};
+use keys_records::{Form, Records};
 use keys_sketches::{Sources, TextReader};
 use std::alloc::Global;
 use std::fs::File;
@@ -123,6 +124,7 @@ pub struct Files<'a> {
     command: Option<&'static str>,
     is_quiet: bool,
     share: Option<Share>,
+    form: Option<Form>,
 }
 
 impl<'a> Files<'a> {
@@ -135,6 +137,7 @@ impl<'a> Files<'a> {
             command: None,
             is_quiet: false,
             share: None,
+            form: None,
         }
     }
 
@@ -142,6 +145,12 @@ impl<'a> Files<'a> {
     /// part. Then each file must be a regular file, and its length counts as it is when it is opened.
     pub fn in_part(self, share: Option<Share>) -> Files<'a> {
         Files { share, ..self }
+    }
+
+    /// The same files, whose texts are records of this form, each of them read as a line; or all bytes as they are, if
+    /// it is `None`.
+    pub fn in_records(self, form: Option<Form>) -> Files<'a> {
+        Files { form, ..self }
     }
 
     /// The same files, which this command reads as lines: of one whose first bytes aren't those of lines, a warning is
@@ -194,7 +203,7 @@ impl<'a> Files<'a> {
 }
 
 impl<'a> Sources for Files<'a> {
-    type Source = Part<Input<'a>>;
+    type Source = Records<Part<Input<'a>>>;
 
     ghost texts = { λ _. None };
 
@@ -208,7 +217,7 @@ impl<'a> Sources for Files<'a> {
         true
     }
 
-    fn next_source(&mut self) -> io::Result<Option<Part<Input<'a>>>> {
+    fn next_source(&mut self) -> io::Result<Option<Records<Part<Input<'a>>>>> {
         let Some(name) = self.next_name() else {
             return Ok(None);
         };
@@ -218,7 +227,10 @@ impl<'a> Sources for Files<'a> {
                 "distinct: reading from the terminal; press Ctrl-D to finish"
             );
         }
-        Ok(Some(part))
+        Ok(Some(match self.form {
+            Some(form) => Records::new(part, form),
+            None => Records::whole(part),
+        }))
     }
 }
 

@@ -19,6 +19,30 @@ pub struct Coarser<'a> {
     pub lg_k: u8,
 }
 
+/// An image was made with another seed than that of the command, and is read all the same.
+#[derive(Clone, Copy, Debug)]
+pub struct OtherSeed<'a> {
+    /// The name, in messages, of the image's file.
+    pub name: &'a str,
+    /// The number of the image's line, from 1; 0 if the whole file is meant.
+    pub line: u64,
+}
+
+impl fmt::Display for OtherSeed<'_> {
+    fn fmt<W: fmt::Write>(&self, f: &mut fmt::Formatter<W>) -> fmt::Result {
+        let name = Escaped(self.name);
+        let line = self.line;
+        write!(f, "warning: {name}")?;
+        if line != 0 {
+            write!(f, ": line {line}")?;
+        }
+        write!(
+            f,
+            " was made with another seed: pass that --seed to combine it"
+        )
+    }
+}
+
 /// A file whose lines were requested has none.
 #[derive(Clone, Copy, Debug)]
 pub struct NoLines<'a> {
@@ -79,6 +103,8 @@ pub enum Remark<'a> {
     NoLines(NoLines<'a>),
     /// A union is less exact than one of its images.
     Coarser(Coarser<'a>),
+    /// An image is of another seed.
+    OtherSeed(OtherSeed<'a>),
     /// The answer, an image, has an estimate.
     Estimated(Report),
 }
@@ -97,6 +123,7 @@ impl fmt::Display for Remark<'_> {
                     "warning: {name} retains {retained} hashes, and --lg-k {lg_k} keeps {kept}: the union is less exact than its images; pass a greater --lg-k"
                 )
             }
+            Remark::OtherSeed(image) => write!(f, "{image}"),
             Remark::Estimated(report) => {
                 let estimate = report.estimate;
                 let lower = report.interval.lower;

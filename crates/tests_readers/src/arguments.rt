@@ -1,6 +1,6 @@
 //! The answers of the reader of the arguments of `distinct`.
 use distinct_arguments::{
-    Command, Form, Front, Options, Request, Seed, front_of, options_first, read_arguments,
+    Command, Form, Front, Operator, Options, Request, Seed, front_of, options_first, read_arguments,
 };
 use std::alloc::{AllocError, Global};
 use std::fmt::Display;
@@ -31,10 +31,10 @@ fn put_value<T: Display + Copy>(
 
 /// The default of `--lg-k`.
 fn default_lg_k(command: Command) -> u8 {
-    if command == Command::Count || command == Command::Visits {
-        16
-    } else {
-        12
+    match command {
+        Command::Count | Command::Visits => 16,
+        Command::Show | Command::Combine(Operator::Meet | Operator::Minus) => 26,
+        _ => 12,
     }
 }
 
@@ -79,6 +79,8 @@ fn put_flags(text: &mut String, options: &Options<'_>) -> Result<(), AllocError>
         (" groups", options.groups),
         (" sums", options.sums),
         (" visits", options.visits),
+        (" csv", options.csv),
+        (" header", options.header),
         (" keys", options.keys),
         (" progress", options.progress),
         (" human", options.human),

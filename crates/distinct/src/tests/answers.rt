@@ -187,7 +187,7 @@ fn show_of(
 ) -> Result<(Vec<u8>, Vec<Failure>), Failure>
     requires seeded { seed_hash seed ≢ 0 }
     ensures shown { IfOk result (λ v.
-        IsShownOf (options_of options.now) seed (names_of names.now) (texts_of texts.now)
+        IsShownOf (options_of options.now) (names_of names.now) (texts_of texts.now)
         v.0.items v.1.items) }
 {
     answered(

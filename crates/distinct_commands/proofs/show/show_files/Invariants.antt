@@ -9,7 +9,7 @@ use Rattle.distinct_commands.proofs.show.show_files.Given as goal
 -- the lines so far, followed by those of the images that are left, are all lines, and so are the failures
 abbrev pub invariant-loop-file : goal.invariant-loop-file
 invariant-loop-file g l = record {
-  shows : ShowsByName (options_of l.options) l.seed (remaining_images g.S.Source.Read.remaining g.S.Sources.texts l.fn.images) (map (λ name. string_bytes name) l.files) l.answer.bytes.items l.answer.passed.items (remaining_images g.S.Source.Read.remaining g.S.Sources.texts l.images) (map (λ name. string_bytes name) l.left);
+  shows : ShowsByName (options_of l.options) (remaining_images g.S.Source.Read.remaining g.S.Sources.texts l.fn.images) (map (λ name. string_bytes name) l.files) l.answer.bytes.items l.answer.passed.items (remaining_images g.S.Source.Read.remaining g.S.Sources.texts l.images) (map (λ name. string_bytes name) l.left);
   of_one : AreOfOne g.S.Sources.may_fail l.answer.passed.items;
   whole : l.images.hex ≡ false;
   named : l.images.inputs.left.now ≡ l.left;

@@ -11,6 +11,6 @@ invariant-loop g l = record {
   sound : g.G.SketchedGroups.is_sound l.groups;
   printed : (sketch : List ℕ → Compact ℕ) (names : List (List ℕ)) → g.G.SketchedGroups.lists sketch names l.fn.groups →
       (left : List (List ℕ)) × g.G.SketchedGroups.lists sketch left l.groups
-      × (groups_text l.self.images (options_of l.self.options.now) sketch (first_items (options_of l.self.options.now).most (counted_names (options_of l.self.options.now) sketch names))
-      ≡ l.printed.items ++ groups_text l.self.images (options_of l.self.options.now) sketch (first_items l.room (counted_names (options_of l.self.options.now) sketch left)));
+      × (groups_text l.self.listing (options_of l.self.options.now) sketch (first_items (options_of l.self.options.now).most (counted_names (options_of l.self.options.now) sketch names))
+      ≡ l.printed.items ++ groups_text l.self.listing (options_of l.self.options.now) sketch (first_items l.room (counted_names (options_of l.self.options.now) sketch left)));
 }

@@ -13,6 +13,6 @@ returns-in-Name-clause-printed g c = λ sketch names left.
     let estimate = group_estimate options sketch in
     let counted = counted_names options sketch names in
     let by_name : chosen_order options ≡ Name = sym c.unwrap_or.ensures ∙ c.in-Name.is in
-    IfOk-weaker c.groups_text.result (λ v. v.items ≡ groups_text c.args.self.images options sketch (first_items options.most counted))
-    (λ v. (ordered : List (List ℕ)) × AreOrdered (chosen_order options) estimate counted ordered × (v.items ≡ groups_text c.args.self.images options sketch (first_items options.most ordered)))
+    IfOk-weaker c.groups_text.result (λ v. v.items ≡ groups_text c.args.self.listing options sketch (first_items options.most counted))
+    (λ v. (ordered : List (List ℕ)) × AreOrdered (chosen_order options) estimate counted ordered × (v.items ≡ groups_text c.args.self.listing options sketch (first_items options.most ordered)))
     (λ v is. (counted, subst (λ (order : Order). AreOrdered order estimate counted counted) (sym by_name) refl, is)) (c.groups_text.ensures.printed sketch names left)

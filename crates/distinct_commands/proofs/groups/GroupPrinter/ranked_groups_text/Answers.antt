@@ -12,7 +12,7 @@ loop-init g c = record {
   printed = λ sketch names left.
       let options = options_of c.args.self.options.now in
       let estimate = group_estimate options sketch in
-      let line = λ (name : List ℕ). group_line c.args.self.images options name (sketch name) in
+      let line = λ (name : List ℕ). group_line c.args.self.listing options name (sketch name) in
       ([], names, left, refl, subst (HasTexts estimate line []) (sym c.new-ranked.ensures.items) (none_has_texts estimate line));
 }
 
@@ -21,9 +21,9 @@ loop-preserved g c = record {
   sound = c.next_counted.ensures.sound;
   printed = λ sketch names all_left.
       let options = options_of c.args.self.options.now in
-      let images = c.args.self.images in
+      let listing = c.args.self.listing in
       let estimate = group_estimate options sketch in
-      let line = λ (name : List ℕ). group_line images options name (sketch name) in
+      let line = λ (name : List ℕ). group_line listing options name (sketch name) in
       let so_far = c.loop.invariant.printed sketch names all_left in
       let next = subst (IsNextCounted (g.G.SketchedGroups.lists sketch) options sketch so_far.1 c.next_counted.new.groups) c.in-Ok-Some.field-0-is (c.in-Ok-Some.ensures.next sketch so_far.1 so_far.2) in
       let name = c.in-Ok-Some.group.name.items in
@@ -36,7 +36,7 @@ loop-preserved g c = record {
         subst (HasTexts estimate line (so_far.0 ++ name ∷ [])) (sym c.in_ok-push-in-Ok-Some.ensures.items)
             (group_added estimate line so_far.0 c.loop.ranked.items one name so_far.4 made.name
             (made.estimate ∙ ap (λ s. (report_by options s).estimate) next.2)
-            (made.text ∙ ap (group_line images options name) next.2)),
+            (made.text ∙ ap (group_line listing options name) next.2)),
       );
 }
 
@@ -45,7 +45,7 @@ returns-in-Ok-None-clause-printed g c = λ sketch names all_left.
     let options = options_of c.args.self.options.now in
     let estimate = group_estimate options sketch in
     let counted = counted_names options sketch in
-    let line = λ (name : List ℕ). group_line c.args.self.images options name (sketch name) in
+    let line = λ (name : List ℕ). group_line c.args.self.listing options name (sketch name) in
     let so_far = c.loop.invariant.printed sketch names all_left in
     let none = subst (IsNextCounted (g.G.SketchedGroups.lists sketch) options sketch so_far.1 c.next_counted.new.groups) c.in-Ok-None.field-0-is (c.in-Ok-None.ensures.next sketch so_far.1 so_far.2) in
     let all : counted names ≡ so_far.0 = so_far.3 ∙ ap (λ ns. so_far.0 ++ ns) none ∙ append-nil so_far.0 in

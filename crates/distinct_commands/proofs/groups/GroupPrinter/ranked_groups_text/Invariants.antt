@@ -12,5 +12,5 @@ invariant-loop g l = record {
   printed : (sketch : List ℕ → Compact ℕ) (names : List (List ℕ)) → g.G.SketchedGroups.lists sketch names l.fn.groups →
       (done left : List (List ℕ)) × g.G.SketchedGroups.lists sketch left l.groups
       × (counted_names (options_of l.self.options.now) sketch names ≡ done ++ counted_names (options_of l.self.options.now) sketch left)
-      × HasTexts (group_estimate (options_of l.self.options.now) sketch) (λ name. group_line l.self.images (options_of l.self.options.now) name (sketch name)) done l.ranked.items;
+      × HasTexts (group_estimate (options_of l.self.options.now) sketch) (λ name. group_line l.self.listing (options_of l.self.options.now) name (sketch name)) done l.ranked.items;
 }

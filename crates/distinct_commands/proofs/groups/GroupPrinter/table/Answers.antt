@@ -11,5 +11,5 @@ returns-clause-printed g c = λ sketch names left.
       printed.1,
       c.in_ok-extend_from_slice.ensures.items
           ∙ ap (λ bytes. bytes ++ c.as_slice.result.now) (ap (λ (v : Vec ℕ Global). v.items) c.into_bytes-printed.ensures.value ∙ c.in_ok-head.ensures)
-          ∙ ap (λ bytes. groups_head c.args.self.images options ++ bytes) (c.as_slice.ensures.value ∙ printed.2),
+          ∙ ap (λ bytes. groups_head c.args.self.listing options ++ bytes) (c.as_slice.ensures.value ∙ printed.2),
     )

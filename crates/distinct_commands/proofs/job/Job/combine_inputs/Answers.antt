@@ -7,7 +7,7 @@ use Rattle.theta_sketches.specs.Image.{written}
 use Rattle.distinct_arguments.specs.Faults.{options_of}
 use Rattle.distinct_arguments.specs.declared.commands.Operator.{Operator}
 use Rattle.distinct_commands.specs.Answers.{IsCombinedOf, IsIntersectionImage, IsExpected}
-use Rattle.distinct_commands.specs.Combined.{intersection_of}
+use Rattle.keys_joins.specs.Joins.{intersection_of}
 use Rattle.distinct_messages.specs.Failures.{UnreadableIf}
 use Rattle.distinct_inputs.specs.Failures.{unites_sums, AreCounted, IsOfCombining, IsOfImages}
 use Rattle.distinct_inputs.specs.Images.{images_of, remaining_images}

@@ -1,4 +1,4 @@
-use Rattle.std.proofs.Common.{refl, sym, ◌∙◌}
+use Rattle.std.proofs.Common.{refl, sym, subst, ◌∙◌}
 use Rattle.std.specs.Prelude.{IfOk}
 use Rattle.keys_lines.specs.Lines.{lines_of_all}
 use Rattle.keys_sketches.proofs.Turns.{if_some}
@@ -6,7 +6,8 @@ use Rattle.keys_groups.specs.Groups.{HasGroups, group_sketch}
 use Rattle.distinct_arguments.specs.Faults.{options_of}
 use Rattle.distinct_arguments.specs.Settings.{chosen_group}
 use Rattle.distinct_commands.specs.Answers.{IsLinesText}
-use Rattle.distinct_commands.specs.Groups.{grouping_of}
+use Rattle.distinct_commands.specs.Groups.{grouping_of, IsGroupsText}
+use Rattle.distinct_commands.specs.declared.groups.Listing.{Listing}
 use Rattle.distinct_commands.proofs.Answered.{sketched, grouped}
 use Rattle.distinct_commands.proofs.job.Job.print_lines.Goals as goal
 
@@ -18,7 +19,8 @@ returns-in_ok-groups-in-Some-clause-printed g c =
     if_some (g.S.Sources.texts c.args.self.inputs.sources) (λ texts. HasGroups (grouping_of options seed by) (lines_of_all texts) c.in_ok-groups-in-Some.groups)
     (λ texts. IfOk c.table.result (λ v. IsLinesText c.args.images (chosen_group options) options seed texts v.items))
     (λ texts has. grouped c.table.result (λ v. v.items) c.args.images (chosen_group options) by options seed texts has.0 (sym c.group.ensures ∙ c.in-Some.is) has.1
-    (c.table.ensures.printed (group_sketch (grouping_of options seed by) (lines_of_all texts)) has.0 (grouping_of options seed by, lines_of_all texts, refl, has.2)))
+    (subst (λ (listing : Listing). IfOk c.table.result (λ v. IsGroupsText listing options (group_sketch (grouping_of options seed by) (lines_of_all texts)) has.0 v.items)) c.listing_of.ensures
+    (c.table.ensures.printed (group_sketch (grouping_of options seed by) (lines_of_all texts)) has.0 (grouping_of options seed by, lines_of_all texts, refl, has.2))))
     c.in_ok-groups-in-Some.ensures.grouped
 
 pub returns-in_ok-sketch-in-None-clause-printed : goal.returns-in_ok-sketch-in-None-clause-printed

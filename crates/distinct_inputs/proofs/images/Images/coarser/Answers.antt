@@ -1,4 +1,4 @@
-use Rattle.std.proofs.Common.{rules, arith, ◌≤◌, ◌^◌}
+use Rattle.std.proofs.Common.{rules, ◌≤◌, ◌^◌}
 use Rattle.std.proofs.Math.Pow.{pow_mono}
 use Rattle.distinct_inputs.proofs.images.Images.coarser.Goals as goal
 use Rattle.distinct_inputs.proofs.images.Images.coarser.Goals.{else-lg_k-lt64-via-then-lg_k-lt64+else-lg_k-most, else-lg_k-lt64-via-else-lg_k-lt64}

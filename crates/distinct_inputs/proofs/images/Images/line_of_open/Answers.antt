@@ -1,4 +1,4 @@
-use Rattle.std.proofs.Common.{ℕ, ◌≤◌, List, Option, Some, Vec, Global, sym, subst, arith, ne_eqb}
+use Rattle.std.proofs.Common.{ℕ, List, Option, Some, Vec, Global, sym, subst, arith, ne_eqb}
 use Rattle.std.specs.Io.Buffered.{reader_remaining}
 use Rattle.keys_sketches.specs.Sources.{GivesNext}
 use Rattle.distinct_inputs.specs.Images.{remaining_parts}

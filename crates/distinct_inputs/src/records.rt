@@ -1,0 +1,49 @@
+//! Files of records.
+ghost use Rattle.std.specs.Prelude.{◌≡◌, unwrap_or};
+ghost use Rattle.distinct_arguments.specs.Faults.{options_of};
+ghost use Rattle.distinct_inputs.specs.Records.{chosen_columns, record_form};
+
+use distinct_arguments::Options;
+use keys_records::{Columns, Form};
+
+/// The default separator of the fields of records.
+const COMMA: u8 = b',';
+
+/// The number of a field, or 0 if none is chosen.
+fn number_of(field: Option<u32>) -> u64
+    ensures { result ≡ unwrap_or field 0 }
+{
+    match field {
+        Some(number) => number as u64,
+        None => 0,
+    }
+}
+
+/// The fields of a record that options use: those of their numbers, or all if the whole record is its key.
+fn chosen_columns(options: &Options<'_>) -> Columns
+    ensures { result ≡ chosen_columns (options_of options.now) }
+{
+    match options.field {
+        Some(field) => Columns::new(
+            field as u64,
+            number_of(options.by),
+            number_of(options.value),
+        ),
+        None => Columns::all(),
+    }
+}
+
+/// How files are read as records, if they are: with `--csv`.
+pub fn record_form(options: &Options<'_>) -> Option<Form>
+    ensures { result ≡ record_form (options_of options.now) }
+{
+    if options.csv {
+        Some(Form {
+            separator: options.separator.unwrap_or(COMMA),
+            header: options.header,
+            columns: chosen_columns(options),
+        })
+    } else {
+        None
+    }
+}
