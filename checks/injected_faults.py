@@ -337,6 +337,7 @@ READING = (
     "count_of_files",
     "count_of_listed_files",
     "count_of_files_listed_by_standard_input",
+    "count_of_records",
     "count_by_a_field",
     "count_by_a_field_the_greatest_first",
     "sketch_in_hexadecimal",
