@@ -3,18 +3,16 @@ ghost use Rattle.std.specs.Prelude.{◌≡◌, ◌≢◌, ℕ, false, List, [], 
 ghost use Rattle.sketch_base.specs.Seed.{seed_hash};
 ghost use Rattle.theta_sketches.specs.Image.{written};
 ghost use Rattle.distinct_arguments.specs.Arguments.{action_of};
-ghost use Rattle.distinct_arguments.specs.declared.commands.Operator.TheVariants.{Union};
+ghost use Rattle.distinct_arguments.specs.declared.commands.Operator.TheVariants.{Union, Meet, Minus};
 ghost use Rattle.distinct_arguments.specs.Faults.{options_of, request_action};
 ghost use Rattle.distinct_arguments.specs.Settings.{chosen_group, chosen_value};
 ghost use Rattle.distinct_inputs.specs.Failures.{chosen_amount};
 ghost use Rattle.distinct_inputs.specs.Lists.{names_of, texts_of};
-ghost use Rattle.distinct_commands.specs.Answers.{sketch_of, IsIntersectionImage, IsDifferenceImage};
-ghost use Rattle.distinct_commands.specs.Showing.{IsShownOf};
+ghost use Rattle.distinct_commands.specs.Answers.{sketch_of, IsShowText};
 ghost use Rattle.distinct_commands.specs.Answers.{IsCountText, IsSketchText, IsCommandAnswer, IsCombinedText};
 ghost use Rattle.distinct_commands.specs.Answers.{Performs};
 ghost use Rattle.distinct_commands.specs.Eval.{IsEvaluatedOf};
 ghost use Rattle.distinct_commands.specs.Operands.{words_for, words_in, Suits, SuitsAction};
-ghost use Rattle.distinct_inputs.specs.Images.{images_of, in_form};
 ghost use Rattle.distinct_commands.specs.Similarity.{IsComparedOf};
 ghost use Rattle.distinct_commands.specs.Sums.{IsTotalText};
 ghost use Rattle.distinct_commands.specs.Visits.{IsVisitsText};
@@ -141,7 +139,7 @@ fn union_of(
     Ok(written.0)
 }
 
-/// What `meet` writes of files of images.
+/// What `meet` writes of files of images, by groups or not.
 fn meet_of(
     alloc: Global,
     options: &Options<'_>,
@@ -150,16 +148,15 @@ fn meet_of(
     texts: &[Vec<u8>],
 ) -> Result<Vec<u8>, Failure>
     requires seeded { seed_hash seed ≢ 0 }
-    ensures met { IfOk result (λ v. (image : List ℕ)
-        × IsIntersectionImage seed (images_of false options.now.hex (texts_of texts.now)) image
-        × (v.items ≡ in_form options.now.hex image)) }
+    ensures met { IfOk result (λ v.
+        IsCombinedText options.now.groups Meet (options_of options.now) seed (texts_of texts.now) v.items) }
 {
     let meet = Command::Combine(Operator::Meet);
     let written = answered(alloc, meet, options, seed, Operands::Files(names), texts)?;
     Ok(written.0)
 }
 
-/// What `minus` writes of files of two images.
+/// What `minus` writes of files of two images, by groups or not.
 fn minus_of(
     alloc: Global,
     options: &Options<'_>,
@@ -168,16 +165,15 @@ fn minus_of(
     texts: &[Vec<u8>],
 ) -> Result<Vec<u8>, Failure>
     requires seeded { seed_hash seed ≢ 0 }
-    ensures difference { IfOk result (λ v. (image : List ℕ)
-        × IsDifferenceImage seed (images_of false options.now.hex (texts_of texts.now)) image
-        × (v.items ≡ in_form options.now.hex image)) }
+    ensures difference { IfOk result (λ v.
+        IsCombinedText options.now.groups Minus (options_of options.now) seed (texts_of texts.now) v.items) }
 {
     let minus = Command::Combine(Operator::Minus);
     let written = answered(alloc, minus, options, seed, Operands::Files(names), texts)?;
     Ok(written.0)
 }
 
-/// What `show` writes of files of images, and the failures of those that it passes over.
+/// What `show` writes of files of images, by groups or not, and the failures of those that it passes over.
 fn show_of(
     alloc: Global,
     options: &Options<'_>,
@@ -187,7 +183,7 @@ fn show_of(
 ) -> Result<(Vec<u8>, Vec<Failure>), Failure>
     requires seeded { seed_hash seed ≢ 0 }
     ensures shown { IfOk result (λ v.
-        IsShownOf (options_of options.now) (names_of names.now) (texts_of texts.now)
+        IsShowText options.now.groups (options_of options.now) seed (names_of names.now) (texts_of texts.now)
         v.0.items v.1.items) }
 {
     answered(
