@@ -1,11 +1,13 @@
 -- What is passed on of each byte of a text, and where the byte behind it is.
-use Rattle.std.specs.Prelude.{ℕ, Bool, true, false, not, ◌==◌, List, [], ◌∷◌, Option, None, Some, if◌then◌else◌}
+use Rattle.std.specs.Prelude.{ℕ, ◌≡◌, ⊤, Bool, true, false, not, ◌==◌, List, [], ◌∷◌, Option, None, Some, if◌then◌else◌}
 use Rattle.std.specs.Option.{option_map}
 use Rattle.keys_records.specs.declared.flaw.Flaw.TheVariants as Flaw
 use Rattle.keys_records.specs.declared.form.Form.{Form}
 use Rattle.keys_records.specs.declared.place.Before.{Before}
 use Rattle.keys_records.specs.declared.place.Before.TheVariants.{Record, Separator, Plain, Quoted, Quote, Return}
 use Rattle.keys_records.specs.declared.place.Place.{Place}
+use Rattle.keys_records.specs.declared.place.Stay.{Stay}
+use Rattle.keys_records.specs.declared.place.Stay.TheVariants.{Shown, Dropped, Unknown}
 use Rattle.keys_records.specs.declared.place.Step.{Step}
 use Rattle.keys_records.specs.declared.place.Step.TheVariants.{Shows, Drops, Flawed}
 use Rattle.keys_records.specs.declared.place.End.{End}
@@ -92,3 +94,13 @@ shown_step (Flawed flaw) rest = None
 abbrev pub text_of : Form → Place → (text : List ℕ) → Option (List ℕ)
 text_of form place [] = shown_end (end_of place)
 text_of form place (byte ∷ text) = shown_step (step form place byte) (λ next. text_of form next text)
+
+-- what is passed on of a byte of a value, unless it is a flaw
+abbrev pub stay_in_value : Place → Stay
+stay_in_value place = if has_first place.columns then Shown else Dropped
+
+-- this is passed on of the byte at a place, and the place behind it is the same; or it isn't known
+abbrev pub Stays : Form → Place → (byte : ℕ) → Stay → Type 0
+Stays form place byte Shown = step form place byte ≡ Shows byte place
+Stays form place byte Dropped = step form place byte ≡ Drops place
+Stays form place byte Unknown = ⊤

@@ -1,6 +1,7 @@
 //! Where in a record a byte is, and what is passed on of it.
 ghost use Rattle.std.specs.Prelude.{◌≡◌};
 ghost use Rattle.keys_records.specs.Steps.{record_place, first_place, field_place, moved, value_step, end_step, outside_step, step, end_of};
+ghost use Rattle.keys_records.specs.Steps.{stay_in_value, Stays};
 
 use crate::flaw::Flaw;
 use crate::form::{BETWEEN, Columns, Form};
@@ -42,6 +43,17 @@ pub(crate) enum Step {
     Drops(Place),
     /// The byte shows a flaw.
     Flawed(Flaw),
+}
+
+/// What is passed on of a byte behind which the place is the same, as of nearly all bytes of fields.
+#[derive(Clone, Copy, Debug, PartialEq, Eq)]
+pub(crate) enum Stay {
+    /// The byte.
+    Shown,
+    /// Nothing.
+    Dropped,
+    /// It isn't known here: `step` has it.
+    Unknown,
 }
 
 /// What is passed on at the end of a text.
@@ -196,6 +208,47 @@ impl Place {
                     self.pass_outside(form, byte, self.pass_value(Before::Plain, byte))
                 }
             }
+        }
+    }
+
+    /// What is passed on of a byte of a value.
+    #[inline(always)]
+    fn stay_in_value(self) -> Stay
+        ensures { result ≡ stay_in_value self }
+    {
+        if self.columns.has_first() {
+            Stay::Shown
+        } else {
+            Stay::Dropped
+        }
+    }
+
+    /// What is passed on of the byte here, if the place behind it is the same.
+    #[inline(always)]
+    pub(crate) fn stay(self, form: Form, byte: u8) -> Stay
+        ensures { Stays form self byte result }
+    {
+        match self.before {
+            Before::Plain => {
+                if byte == form.separator
+                    || byte == b'"'
+                    || byte == b'\n'
+                    || byte == b'\r'
+                    || byte == BETWEEN
+                {
+                    Stay::Unknown
+                } else {
+                    self.stay_in_value()
+                }
+            }
+            Before::Quoted => {
+                if byte == b'"' || byte == b'\n' || byte == BETWEEN {
+                    Stay::Unknown
+                } else {
+                    self.stay_in_value()
+                }
+            }
+            _ => Stay::Unknown,
         }
     }
 

@@ -7,7 +7,7 @@ ghost use Rattle.keys_records.specs.Stages.{rest_of, Finishes};
 
 use crate::flaw::Flaw;
 use crate::form::Form;
-use crate::place::{End, Place, Step};
+use crate::place::{End, Place, Stay, Step};
 use std::io;
 
 /// How far a reader of records is.
@@ -35,16 +35,23 @@ fn pass(form: Form, start: Place, line: &mut u64, block: &mut [u8]) -> (Stage, u
     let mut count = 0;
     for i in 0..block.len() {
         let byte = block[i];
-        match place.step(form, byte) {
-            Step::Shows(shown, next) => {
-                block[count] = shown;
+        match place.stay(form, byte) {
+            Stay::Shown => {
+                block[count] = byte;
                 count += 1;
-                place = next;
             }
-            Step::Drops(next) => {
-                place = next;
-            }
-            Step::Flawed(flaw) => return (Stage::Flawed(flaw), 0),
+            Stay::Dropped => {}
+            Stay::Unknown => match place.step(form, byte) {
+                Step::Shows(shown, next) => {
+                    block[count] = shown;
+                    count += 1;
+                    place = next;
+                }
+                Step::Drops(next) => {
+                    place = next;
+                }
+                Step::Flawed(flaw) => return (Stage::Flawed(flaw), 0),
+            },
         }
         *line = line.wrapping_add((byte == b'\n') as u64);
     }
