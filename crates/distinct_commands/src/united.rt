@@ -158,6 +158,7 @@ impl<'a, S: Sources + Drop> Job<'a, S> {
         };
         printer.table(&mut groups)
     }
+
     /// A line for each group that all files have, with the image of the intersection.
     fn meet_inputs(self) -> Result<Vec<u8>, Failure>
         requires seeded { seed_hash self.seed ≢ 0 }

@@ -1,7 +1,7 @@
 //! The records of a text in CSV (RFC 4180), each as a line.
 //!
 //! A record ends with LF or CR LF, which the last one may lack. Its fields are separated by a byte. A field is plain, or
-//! stands between quotes, with each quote in it doubled; there it may have separators and line ends.
+//! is between quotes. Between quotes it may have separators and line ends, and each quote in it is doubled.
 //!
 //! `Records` reads each record from a reader of the text as a line: the values of the chosen fields, and nothing for
 //! the others, with `BETWEEN` between two fields. So the fields of the line have the numbers of the record's:

@@ -28,7 +28,7 @@ pub struct Records<R> {
 }
 
 impl<R: Read> Records<R> {
-    /// The records of a text. The reader stands at its start.
+    /// The records of a text, of which the reader has read nothing.
     pub fn new(inner: R, form: Form) -> Records<R>
         ensures { (text : List ℕ)
             → R.remaining inner ≡ Some text
