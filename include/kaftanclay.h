@@ -256,7 +256,8 @@ kc_status kc_union_lower_lg_k(kc_union *u, uint32_t lg_k);
 /* Makes the union's value as a compact sketch, as kc_union_result does, ordered or not, as in kc_theta_compact_with.
  * Refused as kc_union_result is, and with KC_INVALID_ARGUMENT if `ordered` is neither 0 nor 1. */
 kc_status kc_union_result_with(const kc_union *u, uint32_t ordered, kc_compact *out);
-/* Writes how many bytes the slots of the union take, as kc_theta_estimated_size does. */
+/* Writes how many bytes the slots of the union take, as kc_theta_estimated_size does, and the lists of its hashes, if
+ * it has gone over to lists. */
 kc_status kc_union_estimated_size(const kc_union *u, uint64_t *bytes);
 
 /* ---- Many sketches at once ---- */
@@ -474,7 +475,8 @@ kc_status kc_sums_union_reset(kc_sums_union *u);
 kc_status kc_sums_union_lower_lg_k(kc_sums_union *u, uint32_t lg_k);
 /* Makes the union's value as a compact sketch, ordered or not, as kc_union_result_with does. */
 kc_status kc_sums_union_result_with(const kc_sums_union *u, uint32_t ordered, kc_compact_sums *out);
-/* Writes how many bytes the slots of the union take, as kc_sums_estimated_size does. */
+/* Writes how many bytes the slots of the union take, as kc_sums_estimated_size does, and the lists of its entries, if
+ * it has gone over to lists. */
 kc_status kc_sums_union_estimated_size(const kc_sums_union *u, uint64_t *bytes);
 
 /* ---- Intersections and differences of tuple sketches of sums ---- */

@@ -193,7 +193,8 @@ pub extern "C" fn kcp_sums_union_result_with(
     union.reader().compact_in(alloc, ordered, out.owned())
 }
 
-/// Writes how many bytes the slots of the union take, as `kcp_sums_estimated_size` does.
+/// Writes how many bytes the slots of the union take, as `kcp_sums_estimated_size` does, and the lists of its entries, if it
+/// has gone over to lists.
 #[unsafe(no_mangle)]
 pub extern "C" fn kcp_sums_union_estimated_size(union: &mut SumsUnionReader, bytes: &mut u64) -> u32
     ensures { WritesSome union.old.value bytes.old result bytes.new }

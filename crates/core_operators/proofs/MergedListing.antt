@@ -376,6 +376,21 @@ module _ {X : Type 0} {key : X → ℕ} {merges : X → X → X} {refuses : X �
           refused = λ kind why. elim why [ inl r ↦ inr (refused_next x here lt kind (rw (← hash_is) r)) | inr o ↦ inl o ];
         }
 
+    -- an entry in front of those left, of this hash, isn't from a hash on to below theta: it is skipped
+    pub skipped : (from hash : ℕ) (x : X) (whole left : List X) → IsMergedBut key merges refuses theta ordered listing first (at_or_above key whole from) now → whole ≡ x ∷ left → hash ≡ key x → (hash < from) ⊎ (theta ≤ hash)
+        → IsMergedBut key merges refuses theta ordered listing first (at_or_above key left from) now
+    skipped from hash x whole left so_far shape hash_is why =
+        let others = at_or_above key left from in
+        let here : IsMergedBut key merges refuses theta ordered listing first (at_or_above key (x ∷ left) from) now = subst (λ ys. IsMergedBut key merges refuses theta ordered listing first (at_or_above key ys from) now) shape so_far in
+        elim why [
+          | inl lt ↦ subst (λ ys. IsMergedBut key merges refuses theta ordered listing first ys now) (at_or_above_passed key from left x (omega (arith, hash_is, lt))) here
+          | inr high ↦
+              (elim (leb from (key x)) as (λ b. IsMergedBut key merges refuses theta ordered listing first (cond b (x ∷ others) others) now → IsMergedBut key merges refuses theta ordered listing first others now) [
+                | true ↦ λ it. merge_passes x it (inr (omega (arith, hash_is, high)))
+                | false ↦ λ it. it
+              ]) here
+        ]
+
     -- the entries that are left are merged by another call, into an equal table
     module _ {before : List X} (so_far : IsMergedBut key merges refuses theta ordered listing first before now) {was : MapTable X} {left : List X} (same : was ≡ now) (same_left : left ≡ before) where
       pub rest_merged : {T : Type 0} (new : MapTable X) (r : Result T ErrorKind) → OnOk r (HasMerged key merges refuses left theta was new) → OnOk r (HasMerged key merges refuses listing theta first new)
@@ -424,6 +439,11 @@ module _ {X : Type 0} {key : X → ℕ} {merges : X → X → X} {refuses : X �
           passed = passed_read;
           next = λ hash hash_is high low. is_next still_left keeps (at_or_above_front key from (x ∷ left) left x refl (omega (arith, hash_is, high))) hash_is low;
         }
+
+-- the same, if an entry is in front of those left from a hash on
+pub merged_from : {X : Type 0} {key : X → ℕ} {merges : X → X → X} {refuses : X → X → Bool} {theta : ℕ} {ordered : Bool} {listing : List X} {first : MapTable X} {now : MapTable X} (from lesser : ℕ) (x : X) (unread left : List X)
+    → IsMergedBut key merges refuses theta ordered listing first (at_or_above key unread from) now → lesser ≡ min theta now.kept.theta → unread ≡ x ∷ left → (ordered ≡ true) × (lesser ≤ key x) → HasMerged key merges refuses listing theta first now
+merged_from {key = key} from lesser x unread left so_far lesser_is shape past = merged_below unread from so_far lesser_is (ap (λ b. still_read key b lesser unread) past.0 ∙ shape) past
 
 -- if the next entry is past the lesser theta, in order, all is merged
 pub merged_in_order : {X : Type 0} {key : X → ℕ} {merges : X → X → X} {refuses : X → X → Bool} {theta : ℕ} {listing : List X} {first : MapTable X} {unread left : List X} {now : MapTable X} {x : X}

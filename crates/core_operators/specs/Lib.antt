@@ -5,3 +5,4 @@ pub mod Search
 pub mod Intersection
 pub mod ANotB
 pub mod Filter
+pub mod Lists

@@ -11,12 +11,14 @@ mod filter;
 mod intersection;
 mod iter;
 pub mod laws;
+mod lists;
 mod merge;
 mod ranges;
 mod scan;
 mod search;
 mod share;
 mod union;
+mod union_table;
 mod view;
 
 pub use intersection::IntersectionState;

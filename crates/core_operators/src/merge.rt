@@ -14,11 +14,11 @@ ghost use Rattle.core_laws.specs.Entries.{ClonesEqual};
 ghost use Rattle.core_operators.specs.Union.{HasMerged, IsMergeRefusal, at_or_above};
 
 use crate::iter::EntryIter;
+use crate::union_table::UnionTable;
 use crate::view::EntrySketch;
 use core_laws::{MIN_LG_K, SketchEntry};
 use core_policies::UnionMergePolicy;
 use core_slots::{SlotEntry, UpsertStep};
-use core_table::SketchHashTable;
 use sketch_base::Error;
 use std::alloc::{AllocError, Allocator};
 
@@ -82,19 +82,14 @@ fn is_past_either(hash: u64, theta: u64, own_theta: u64) -> bool
     hash >= theta || hash >= own_theta
 }
 
-/// How many entries of a sketch are merged whose slots are not near, before the rest is merged by way of a list. A
-/// list takes about as long as so many searches through all entries.
-const MOST_FAR: usize = 128;
-
 /// Merges an entry into the table of a union, and returns whether it did. It doesn't, and nothing changes, if the
-/// slot of its hash isn't near and `far` is 0; if it isn't near and `far` isn't 0, it takes 1 from that.
+/// slot of its hash isn't near, or if the entries are in lists.
 #[inline(always)]
 fn merge_one<E: SlotEntry + Clone, P: UnionMergePolicy<E>, A: Allocator + Clone>(
-    table: &mut SketchHashTable<E, A>,
+    table: &mut UnionTable<E, A>,
     hash: u64,
     entry: &E,
     policy: &P,
-    far: &mut usize,
 ) -> Result<bool, Error>
     requires clones_equal { ClonesEqual E.is_clone }
     requires hash_is { hash ≡ E.key entry.now }
@@ -114,93 +109,7 @@ fn merge_one<E: SlotEntry + Clone, P: UnionMergePolicy<E>, A: Allocator + Clone>
         policy,
         incoming: entry,
     };
-    if table.upsert_near(hash, merging)? {
-        return Ok(true);
-    }
-    if *far == 0 {
-        return Ok(false);
-    }
-    *far -= 1;
-    table.upsert_entry(hash, merging)?;
-    Ok(true)
-}
-
-/// The most entries that a table of 2^`lg_nom` nominal entries may have: fifteen eighths of these.
-fn most_entries(lg_nom: u8) -> usize
-    requires low { MIN_LG_K ≤ lg_nom }
-    requires high { lg_nom ≤ 32 }
-    ensures { result ≡ 15 * 2 ^ lg_nom / 8 }
-{
-    (1usize << lg_nom) / 8 * 15
-}
-
-/// The place of the entry of a hash in entries that ascend, if there is one, by binary search.
-fn place_by_halves<E: SketchEntry>(entries: &[E], hash: u64) -> Option<usize>
-    requires { IsAscending E.key entries.now }
-    ensures { MatchOption result (entry_at E.key entries.now hash ≡ None) (IsAt E.key entries.now hash) }
-{
-    entries
-        .binary_search_by_key(&hash, |entry| entry.hash())
-        .ok()
-}
-
-/// Merges the entries from the hash `from` to below theta into the table of a union, in their order, without
-/// searching its slots: the table's entries are taken into an ascending list, in which each incoming hash is sought
-/// by halves, and laid out again at the end, or when there are as many as the table may have. So n entries and m
-/// incoming ones take O((n + m) log(n + m)), however many hashes share a path.
-#[inline(never)]
-fn merge_listed<E: SlotEntry + Clone, P: UnionMergePolicy<E>, A: Allocator + Clone>(
-    table: &mut SketchHashTable<E, A>,
-    entries: &[E],
-    policy: &P,
-    from: u64,
-    theta: u64,
-) -> Result<(), Error>
-    requires clones_equal { ClonesEqual E.is_clone }
-    requires apart { IsApart E.key entries.now }
-    requires of_sketch { MIN_LG_K ≤ table.old.map.lg_nom }
-    ensures after { OnOk result (
-        HasMerged E.key (P.merges policy.now) (P.refuses policy.now)
-        (at_or_above E.key entries.now from) theta table.old.map table.new.map) }
-    ensures made_with { table.new.map ≡ record table.old.map { kept = table.new.map.kept } }
-    ensures refused { IfErr result (
-        IsMergeRefusal E.key (P.refuses policy.now) table.old.map.kept.entries theta
-        (at_or_above E.key entries.now from)) }
-{
-    let mut left = entries;
-    'rounds: loop {
-        let own_theta = table.retention_theta();
-        let most = most_entries(table.lg_nom_size());
-        let mut held = table.sorted_entries()?;
-        let mut added = Vec::new(table.allocator().clone()?);
-        'list_each: while let Some((first, others)) = left.split_first() {
-            let hash = first.hash();
-            if hash != 0 && hash >= from && hash < theta && hash < own_theta {
-                match place_by_halves(&held, hash) {
-                    Some(at) => policy.merge(&mut held[at], first)?,
-                    None => {
-                        if held.len() + added.len() == most {
-                            break;
-                        }
-                        added.push(first.clone()?)?;
-                    }
-                }
-            }
-            left = others;
-        }
-        held.append(&mut added)?;
-        table.refill(held)?;
-        let Some((first, others)) = left.split_first() else {
-            return Ok(());
-        };
-        // There is no room for it: theta falls.
-        let merging = MergeStep {
-            policy,
-            incoming: first,
-        };
-        table.upsert_entry(first.hash(), merging)?;
-        left = others;
-    }
+    table.upsert_near(hash, merging)
 }
 
 /// Merges ascending entries into the table of a union, in their order. It stops at the first that is not below theta
@@ -208,7 +117,7 @@ fn merge_listed<E: SlotEntry + Clone, P: UnionMergePolicy<E>, A: Allocator + Clo
 /// as many instructions as in a loop that also walks over slots or tests the order.
 #[inline(never)]
 fn merge_ascending<E: SlotEntry + Clone, P: UnionMergePolicy<E>, A: Allocator + Clone>(
-    table: &mut SketchHashTable<E, A>,
+    table: &mut UnionTable<E, A>,
     entries: &[E],
     policy: &P,
     theta: u64,
@@ -223,15 +132,14 @@ fn merge_ascending<E: SlotEntry + Clone, P: UnionMergePolicy<E>, A: Allocator + 
     ensures refused { IfErr result
         (IsMergeRefusal E.key (P.refuses policy.now) table.old.map.kept.entries theta entries.now) }
 {
-    let mut far = MOST_FAR;
     let mut left = entries;
     while let Some((first, others)) = left.split_first() {
         let key = first.hash();
         if is_past_either(key, theta, table.retention_theta()) {
             break;
         }
-        if !merge_one(table, key, first, policy, &mut far)? {
-            return merge_listed(table, left, policy, 0, theta);
+        if !merge_one(table, key, first, policy)? {
+            return table.merge_listed(left, policy, true, 0, theta);
         }
         left = others;
     }
@@ -284,7 +192,7 @@ fn clones_of<E: SlotEntry + Clone, A: Allocator>(
 /// order; the policy never sees the others. If they ascend, it stops at the first that is not below theta or that the
 /// table screens.
 pub(crate) fn merge_entries<S: EntrySketch, P: UnionMergePolicy<S::Entry>, A: Allocator + Clone>(
-    table: &mut SketchHashTable<S::Entry, A>,
+    table: &mut UnionTable<S::Entry, A>,
     sketch: S,
     policy: &P,
     ordered: bool,
@@ -309,7 +217,6 @@ where
     if let Some(ascending) = ascending_slice(&entries, ordered) {
         return merge_ascending(table, entries_from(ascending, from), policy, theta);
     }
-    let mut far = MOST_FAR;
     let mut lesser = theta.min(table.retention_theta());
     while let Some(entry) = next_entry(&mut entries, ordered, lesser) {
         let hash = entry.hash();
@@ -319,9 +226,9 @@ where
         if hash < from || hash >= theta {
             continue;
         }
-        if !merge_one(table, hash, entry, policy, &mut far)? {
+        if !merge_one(table, hash, entry, policy)? {
             let rest = clones_of(table.allocator().clone()?, entry, entries)?;
-            return merge_listed(table, &rest, policy, from, theta);
+            return table.merge_listed(&rest, policy, ordered, from, theta);
         }
         lesser = theta.min(table.retention_theta());
     }

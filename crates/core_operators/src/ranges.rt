@@ -13,10 +13,10 @@ ghost use Rattle.core_operators.specs.Union.{IsInput, all_empty, least_theta, sh
 ghost use Rattle.core_operators.specs.Union.{HasMergedAll, IsRangeRefusal, IsAllRefusal};
 
 use crate::merge::merge_entries;
+use crate::union_table::UnionTable;
 use crate::view::{EntrySketch, ThetaFamilySketchMetadata};
 use core_laws::{MAX_THETA, MIN_LG_K};
 use core_policies::UnionMergePolicy;
-use core_table::SketchHashTable;
 use sketch_base::{Error, ErrorKind};
 use std::alloc::Allocator;
 
@@ -72,7 +72,7 @@ fn share_below(count: usize, own_theta: u64, theta: u64) -> u64 {
 
 /// How many entries a table and sketches are expected to have below theta.
 fn expected_below<S: EntrySketch, A: Allocator>(
-    table: &SketchHashTable<S::Entry, A>,
+    table: &UnionTable<S::Entry, A>,
     sketches: &[S],
     theta: u64,
 ) -> u64 {
@@ -124,7 +124,7 @@ fn wanted_of(lg_k: u8) -> u64 {
 /// Merges the entries of sketches whose hashes are from `from` to below `to` into the table of a union, one sketch
 /// after another.
 fn merge_range<S: EntrySketch, P: UnionMergePolicy<S::Entry>, A: Allocator + Clone>(
-    table: &mut SketchHashTable<S::Entry, A>,
+    table: &mut UnionTable<S::Entry, A>,
     sketches: &[S],
     policy: &P,
     from: u64,
@@ -156,7 +156,7 @@ where
 /// Merges the entries of sketches below theta into the table of a union. If all sketches are ordered, it does so
 /// range by range, until the table's theta is in the ranges that were merged.
 pub(crate) fn merge_all<S: EntrySketch, P: UnionMergePolicy<S::Entry>, A: Allocator + Clone>(
-    table: &mut SketchHashTable<S::Entry, A>,
+    table: &mut UnionTable<S::Entry, A>,
     sketches: &[S],
     policy: &P,
     theta: u64,

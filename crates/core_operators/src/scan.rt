@@ -109,7 +109,7 @@ pub(crate) fn push_clones<E: Clone + Drop, A: Allocator>(
 }
 
 /// Appends clones of the entries below theta. The entries ascend.
-fn push_below<E: SketchEntry + Clone + Drop, A: Allocator>(
+pub(crate) fn push_below<E: SketchEntry + Clone + Drop, A: Allocator>(
     kept: &mut Vec<E, A>,
     entries: &[E],
     theta: u64,

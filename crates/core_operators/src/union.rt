@@ -15,12 +15,13 @@ ghost use Rattle.core_laws.specs.Entries.{ClonesEqual};
 
 use crate::merge::merge_entries;
 use crate::ranges::{inputs_of, merge_all};
+use crate::union_table::UnionTable;
 use crate::view::{EntrySketch, ThetaFamilySketchMetadata};
 use core_compact::CompactSketchState;
 use core_laws::MIN_LG_K;
 use core_policies::UnionMergePolicy;
 use core_slots::SlotEntry;
-use core_table::{ResizeFactor, SketchHashTable};
+use core_table::ResizeFactor;
 use sketch_base::{Error, ErrorKind};
 use std::alloc::{Allocator, Global};
 use std::marker::Model;
@@ -39,7 +40,7 @@ pub struct UnionState<E: SlotEntry, P, A: Allocator = Global> {
     empty: bool,
     failed: bool,
     theta: u64,
-    table: SketchHashTable<E, A>,
+    table: UnionTable<E, A>,
     policy: P,
 }
 
@@ -91,7 +92,7 @@ impl<E: SlotEntry + Drop, P: Drop, A: Allocator + Drop> UnionState<E, P, A> {
         ensures made { IfOk result (λ u. u ≡ empty_union lg_k starting_theta (seed_hash seed) policy) }
         ensures refused { Refuses result (settings_refusal lg_k starting_theta seed) true }
     {
-        let table = SketchHashTable::new(alloc, lg_k, resize_factor, starting_theta, seed)?;
+        let table = UnionTable::new(alloc, lg_k, resize_factor, starting_theta, seed)?;
         Ok(UnionState {
             empty: true,
             failed: false,
@@ -255,7 +256,8 @@ impl<E: SlotEntry + Clone, P: UnionMergePolicy<E> + Drop, A: Allocator + Clone> 
         Ok(())
     }
 
-    /// Bytes taken by the slots of its table, including free ones.
+    /// Bytes taken by the slots of its table, including free ones, and by lists of entries, if more than 512 hashes
+    /// shared a path in the slots.
     pub fn estimated_size(&self) -> usize {
         self.table.estimated_size()
     }

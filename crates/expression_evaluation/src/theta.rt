@@ -167,7 +167,7 @@ fn opened<A: Allocator + Clone + Drop>(
             if open.lg_k == lg_k {
                 return Ok(open.union);
             }
-            open.union.to_sketch(true)?
+            ThetaResult::Open(open).into_sketch()?
         }
     };
     let mut union = new_union(alloc, seed, lg_k)?;

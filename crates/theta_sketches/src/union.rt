@@ -197,7 +197,8 @@ impl<A: Allocator + Clone> ThetaUnion<A> {
         self.state.lower_lg_k(lg_k)
     }
 
-    /// Bytes taken by the slots of its table, including free ones: eight per slot, with 32 to 2^(`lg_k` + 1) slots.
+    /// Bytes taken by the slots of its table, including free ones: eight per slot, with 32 to 2^(`lg_k` + 1) slots. If
+    /// more than 512 hashes shared a path in them, its hashes are in lists, and eight bytes of each hash are added.
     pub fn estimated_size(&self) -> usize {
         self.state.estimated_size()
     }

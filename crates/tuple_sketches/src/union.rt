@@ -237,7 +237,8 @@ impl<P: SummaryCombinePolicy + Drop, A: Allocator + Clone> TupleUnion<P, A> {
     }
 
     /// Bytes taken by the slots of its table, including free ones, without memory that summaries own elsewhere. There
-    /// are 32 to 2^(`lg_k` + 1) slots.
+    /// are 32 to 2^(`lg_k` + 1) slots. If more than 512 hashes shared a path in them, its entries are in lists, whose
+    /// bytes are added.
     pub fn estimated_size(&self) -> usize
     where
         P::Summary: Clone,

@@ -1,4 +1,4 @@
-use Rattle.std.proofs.Common.{◌≡◌, ℕ, ◌<◌, ◌≤◌, [], min, Bool, true, false, sym, ◌∙◌, inl, inr, arith}
+use Rattle.std.proofs.Common.{◌≡◌, ℕ, ◌<◌, ◌≤◌, [], min, Bool, true, false, refl, sym, ◌∙◌, inl, inr, arith}
 use Rattle.std.proofs.lemmas.Bool.{cases_lt}
 use Rattle.std.proofs.lemmas.List.{nil_from_length}
 use Rattle.std.proofs.lemmas.Result.{err_from_is_err_and}
@@ -36,9 +36,12 @@ loop-first-preserved g c =
     it.merged _ (rw c.if-not-branch.false at c.in_ok-merge_one.ensures.after) (c.in_ok-merge_one.ensures.allowed c.if-not-branch.false)
 
 -- nothing has changed, and the entries that are left are merged by way of a list
+pub merge_listed-requires-clause-in_order : goal.merge_listed-requires-clause-in_order
+merge_listed-requires-clause-in_order g c = λ e. rw (at_or_above_zero g.E.SketchEntry.key c.loop-first.left.now) (c.loop-first.invariant.merging.in_order refl)
+
 pub returns-then-not-branch-clause-after : goal.returns-then-not-branch-clause-after
 returns-then-not-branch-clause-after g c =
-    rest_merged c.loop-first.invariant (rw c.if-not-branch.true at c.in_ok-merge_one.ensures.after) (at_or_above_zero g.E.SketchEntry.key c.loop-first.left.now) c.merge_listed.new.table.map c.merge_listed.result c.merge_listed.ensures.after
+    rest_merged c.loop-first.invariant (rw c.if-not-branch.true at c.in_ok-merge_one.ensures.after) (at_or_above_zero g.E.SketchEntry.key c.loop-first.left.now) c.merge_listed.new.self.map c.merge_listed.result c.merge_listed.ensures.after
 
 pub returns-then-not-branch-clause-refused : goal.returns-then-not-branch-clause-refused
 returns-then-not-branch-clause-refused g c =

@@ -83,11 +83,17 @@ merge_listed-requires-clause-apart g c =
     let it = read g (goal.at.merge_listed-requires-clause-apart g c).In-Some-next_entry in
     subst (λ ys. IsApart g.S.Entry.SketchEntry.key ys) (sym (c.deref.ensures.value ∙ c.in_ok-rest.ensures)) it.apart
 
+pub merge_listed-requires-clause-in_order : goal.merge_listed-requires-clause-in_order
+merge_listed-requires-clause-in_order g c =
+    let it = read g (goal.at.merge_listed-requires-clause-in_order g c).In-Some-next_entry in
+    let rest_is = ap (λ ys. at_or_above g.S.Entry.SketchEntry.key ys c.args.from) (c.deref.ensures.value ∙ c.in_ok-rest.ensures) in
+    λ e. subst (λ ys. IsAscending g.S.Entry.SketchEntry.key ys) (sym rest_is) (it.whole.merging.in_order e)
+
 pub returns-then-not-branch-clause-after : goal.returns-then-not-branch-clause-after
 returns-then-not-branch-clause-after g c =
     let it = read g (goal.at.returns-then-not-branch-clause-after g c).In-Some-next_entry in
     let rest_is = ap (λ ys. at_or_above g.S.Entry.SketchEntry.key ys c.args.from) (c.deref.ensures.value ∙ c.in_ok-rest.ensures) in
-    rest_merged it.whole (rw c.if-not-branch.true at c.in_ok-merge_one.ensures.after) rest_is c.merge_listed.new.table.map c.merge_listed.result c.merge_listed.ensures.after
+    rest_merged it.whole (rw c.if-not-branch.true at c.in_ok-merge_one.ensures.after) rest_is c.merge_listed.new.self.map c.merge_listed.result c.merge_listed.ensures.after
 
 pub returns-then-not-branch-clause-refused : goal.returns-then-not-branch-clause-refused
 returns-then-not-branch-clause-refused g c =

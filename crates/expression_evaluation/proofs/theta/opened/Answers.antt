@@ -4,7 +4,6 @@ use Rattle.core_compact.specs.CompactState.{compact_value}
 use Rattle.core_laws.specs.Entries.{hash_key, first_hash}
 use Rattle.core_laws.specs.Operators.{unite}
 use Rattle.expression_evaluation.specs.Contents.{contents_of}
-use Rattle.expression_evaluation.proofs.RunSteps.{answer_sketch}
 use Rattle.expression_evaluation.proofs.TwoSketches.{nothing_united}
 use Rattle.expression_evaluation.proofs.OpenUnions.{opened_again, opened_new}
 use Rattle.expression_evaluation.proofs.theta.opened.Goals.{in-Made, in-Open+else-open-lg_k+in_ok-sketch-in-Open}
@@ -20,7 +19,7 @@ unite_sketch-requires-clause-seed g c =
     let same : c.match-first.sketch ≡ contents_of c.args.first =
     elim c.match-first.branch [
       | in-Made w ↦ w.sketch-is ∙ sym (ap (λ r. contents_of r) w.in-Made.is)
-      | in-Open+else-open-lg_k+in_ok-sketch-in-Open w ↦ w.sketch-is ∙ answer_sketch hash_key _ _ _ w.in_ok-sketch-in-Open.ensures.ok ∙ sym (ap (λ r. contents_of r) w.in-Open.is)
+      | in-Open+else-open-lg_k+in_ok-sketch-in-Open w ↦ w.sketch-is ∙ w.in_ok-sketch-in-Open.ensures.contents ∙ sym (ap (λ r. contents_of r) w.in-Open.is)
     ] in
     ap (λ s. s.seed_hash) same ∙ c.requires.seeded ∙ sym (ap (λ u. u.seed_hash) c.in_ok-union.ensures.made)
 
@@ -29,7 +28,7 @@ returns-clause-opened g c =
     let same : c.match-first.sketch ≡ contents_of c.args.first =
     elim c.match-first.branch [
       | in-Made w ↦ w.sketch-is ∙ sym (ap (λ r. contents_of r) w.in-Made.is)
-      | in-Open+else-open-lg_k+in_ok-sketch-in-Open w ↦ w.sketch-is ∙ answer_sketch hash_key _ _ _ w.in_ok-sketch-in-Open.ensures.ok ∙ sym (ap (λ r. contents_of r) w.in-Open.is)
+      | in-Open+else-open-lg_k+in_ok-sketch-in-Open w ↦ w.sketch-is ∙ w.in_ok-sketch-in-Open.ensures.contents ∙ sym (ap (λ r. contents_of r) w.in-Open.is)
     ] in
     let lg = c.args.lg_k in
     let h = seed_hash c.args.seed in

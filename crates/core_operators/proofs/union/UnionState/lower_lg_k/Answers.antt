@@ -2,7 +2,7 @@ use Rattle.std.proofs.Common.{ℕ, sym, ap, subst, ◌∙◌, arith}
 use Rattle.core_operators.specs.Union.{union_value, IsUnionOver}
 use Rattle.core_laws.proofs.maps.Ascending.{ascending-filter}
 use Rattle.core_laws.proofs.insertions.Cases.{IsRetained-below}
-use Rattle.core_operators.proofs.LoweredUnion.{smaller, value_same, value_fewer, sound_smaller, lowered_is, over, over_smaller, over_theta}
+use Rattle.core_operators.proofs.LoweredUnion.{value_same, value_fewer, sound_smaller, lowered_is, over, over_smaller, over_theta}
 use Rattle.core_operators.proofs.union.UnionState.lower_lg_k.Goals as goal
 
 pub returns-then-lg_k-own-2-clause-value : goal.returns-then-lg_k-own-2-clause-value

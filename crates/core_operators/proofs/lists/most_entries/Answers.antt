@@ -1,7 +1,7 @@
 use Rattle.std.proofs.Common.{◌≤◌, ◌^◌, arith}
 use Rattle.std.proofs.Math.Pow.{pow_mono}
 use Rattle.core_table.proofs.Tables.{eights}
-use Rattle.core_operators.proofs.merge.most_entries.Goals as goal
+use Rattle.core_operators.proofs.lists.most_entries.Goals as goal
 
 pub returns : goal.returns
 returns c =
