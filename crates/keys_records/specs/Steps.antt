@@ -2,6 +2,7 @@
 use Rattle.std.specs.Prelude.{ℕ, ◌≡◌, ⊤, Bool, true, false, not, ◌==◌, List, [], ◌∷◌, Option, None, Some, if◌then◌else◌}
 use Rattle.std.specs.Option.{option_map}
 use Rattle.keys_records.specs.declared.flaw.Flaw.TheVariants as Flaw
+use Rattle.keys_records.specs.declared.form.Columns.{Columns}
 use Rattle.keys_records.specs.declared.form.Form.{Form}
 use Rattle.keys_records.specs.declared.place.Before.{Before}
 use Rattle.keys_records.specs.declared.place.Before.TheVariants.{Record, Separator, Plain, Quoted, Quote, Return}
@@ -13,6 +14,10 @@ use Rattle.keys_records.specs.declared.place.Step.TheVariants.{Shows, Drops, Fla
 use Rattle.keys_records.specs.declared.place.End.{End}
 use Rattle.keys_records.specs.declared.place.End.TheVariants.{Ends, Rests, Fails}
 use Rattle.keys_records.specs.Fields.{columns_of, has_first, without_first}
+
+-- the same form, of which other fields are chosen, and no record is a header
+abbrev pub form_with : Form → Columns → Form
+form_with form columns = record { separator = form.separator; header = false; columns = columns }
 
 -- the start of a record that isn't the header
 abbrev pub record_place : Form → Place

@@ -1,5 +1,6 @@
 //! Where in a record a byte is, and what is passed on of it.
-ghost use Rattle.std.specs.Prelude.{◌≡◌};
+ghost use Rattle.std.specs.Prelude.{◌≡◌, true};
+ghost use Rattle.keys_records.specs.declared.place.Before.TheVariants.{Record};
 ghost use Rattle.keys_records.specs.Steps.{record_place, first_place, field_place, moved, value_step, end_step, outside_step, step, end_of};
 ghost use Rattle.keys_records.specs.Steps.{stay_in_value, Stays};
 
@@ -93,6 +94,14 @@ impl Place {
         } else {
             record_place(form)
         }
+    }
+
+    /// Whether it is the start of a record.
+    pub(crate) fn is_start(self) -> bool
+        ensures start { self.before ≡ Record → result ≡ true }
+        ensures other { result ≡ true → self.before ≡ Record }
+    {
+        matches!(self.before, Before::Record)
     }
 
     /// The start of the next field.

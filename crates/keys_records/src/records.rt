@@ -1,8 +1,9 @@
 //! A reader of records.
-ghost use Rattle.std.specs.Prelude.{◌≡◌, ◌<◌, ℕ, List, [], Some, take, length, IfOk};
+ghost use Rattle.std.specs.Prelude.{◌≡◌, ◌<◌, ℕ, List, [], Some, false, take, length, IfOk};
 ghost use Rattle.std.specs.Io.{ReadsAtMost};
 ghost use Rattle.std.specs.Io.KnownBytes.{ReadConsumes};
-ghost use Rattle.keys_records.specs.Steps.{first_place, text_of};
+ghost use Rattle.keys_records.specs.Steps.{first_place, form_with, record_place, text_of};
+ghost use Rattle.keys_records.specs.declared.stage.Stage.TheVariants.{Reading};
 ghost use Rattle.keys_records.specs.Stages.{records_remaining, Passes, HasNone};
 
 use crate::form::{Columns, Form};
@@ -39,6 +40,32 @@ impl<R: Read> Records<R> {
             form,
             stage: Stage::Reading(Place::first(form)),
             line: 1,
+        }
+    }
+
+    /// The same records, of which other fields are chosen, if the next byte is the first of a record; else the reader as it
+    /// is. No record is passed over.
+    pub fn choosing(self, columns: Columns) -> Records<R>
+        ensures { (text : List ℕ)
+            → R.remaining self.inner ≡ Some text
+            → self.stage ≡ Reading (record_place self.form)
+            → records_remaining R.remaining result
+            ≡ text_of (form_with self.form columns) (record_place (form_with self.form columns)) text }
+    {
+        match self.stage {
+            Stage::Reading(place) if place.is_start() => {
+                let form = Form {
+                    separator: self.form.separator,
+                    header: false,
+                    columns,
+                };
+                Records {
+                    stage: Stage::Reading(Place::first(form)),
+                    form,
+                    ..self
+                }
+            }
+            _ => self,
         }
     }
 

@@ -1,0 +1,5 @@
+pub mod Ahead
+pub mod Lines
+pub mod Chosen
+pub mod Mapping
+pub mod Names
