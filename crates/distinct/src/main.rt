@@ -22,7 +22,7 @@ use distinct_arguments::{
     read_arguments, reads_texts, word_of,
 };
 use distinct_commands::{Operands, group_files, only_expression, perform};
-use distinct_inputs::{Files, Inputs, files_in_list, record_form, seed_of};
+use distinct_inputs::{Files, Inputs, choice_of, files_in_list, record_form, seed_of};
 use distinct_messages::{Failure, passed_status};
 use keys_lines::Key;
 use sketch_base::DEFAULT_UPDATE_SEED;
@@ -189,13 +189,13 @@ fn has_standard(names: &[String]) -> bool {
 }
 
 /// Writes the sketch of each group of the lines of files of these names, or of standard input, to a file in a folder.
-fn run_folder(
-    rt: &HostRuntime,
-    options: &Options<'_>,
+fn run_folder<'a>(
+    rt: &'a HostRuntime,
+    options: &Options<'a>,
     seed: u64,
     by: Key,
     folder: &str,
-    files: &[String],
+    files: &'a [String],
 ) -> Result<(), Failure>
     requires seeded { seed_hash seed ≢ 0 }
 {
@@ -210,7 +210,7 @@ fn run_folder(
 fn files_of<'a>(
     rt: &'a HostRuntime,
     command: Command,
-    options: &Options<'_>,
+    options: &Options<'a>,
     names: &'a [String],
 ) -> Files<'a> {
     let has_lines = reads_texts(command, options);
@@ -224,6 +224,7 @@ fn files_of<'a>(
         .watched(reader, options.quiet)
         .in_part(options.part)
         .in_records(record_form(options))
+        .choosing(choice_of(options))
 }
 
 /// Fails if the bytes of an image would go to a terminal.
@@ -234,7 +235,8 @@ fn check_terminal(
 ) -> Result<(), Failure> {
     let prints_counts = command == Command::Count || command == Command::Show;
     let prints_sums = command == Command::Visits || command == Command::Sum;
-    let writes_image = !prints_counts && !prints_sums && command != Command::Similarity;
+    let compares = command == Command::Similarity || command == Command::Matrix;
+    let writes_image = !prints_counts && !prints_sums && !compares;
     let is_printed = options.output.is_none() && options.folder.is_none();
     if writes_image && !options.hex && is_printed && rt.stdout().is_terminal() {
         Err(Failure::Terminal)
@@ -245,11 +247,11 @@ fn check_terminal(
 
 /// Does what a request says, under this seed, on what it is given, of which it opens the files. The answer goes to
 /// standard output, or to the file that `--output` names, which is created once the whole answer is made.
-fn run_request(
-    rt: &HostRuntime,
-    request: Request<'_>,
+fn run_request<'a>(
+    rt: &'a HostRuntime,
+    request: Request<'a>,
     seed: u64,
-    operands: Operands<'_>,
+    operands: Operands<'a>,
 ) -> Result<Vec<Failure>, Failure>
     requires seeded { seed_hash seed ≢ 0 }
     requires suits { SuitsAction (request_action request) operands }

@@ -8,15 +8,3 @@ use Rattle.distinct_arguments.specs.declared.table.OptionName.TheVariants as o
 pub size_is : (option : OptionName) (n : ℕ) → option ≡ o.LgK → IsOfKind (kind_of option) n → (4 ≤ n) × (n ≤ 26)
 unfolding rows
 size_is option n is fits = subst (λ (x : OptionName). IsOfKind (kind_of x) n) is fits
-
-pub field_is : (option : OptionName) (n : ℕ) → option ≡ o.Field → IsOfKind (kind_of option) n → (1 ≤ n) × (n ≤ 4294967295)
-unfolding rows
-field_is option n is fits = subst (λ (x : OptionName). IsOfKind (kind_of x) n) is fits
-
-pub by_is : (option : OptionName) (n : ℕ) → option ≡ o.By → IsOfKind (kind_of option) n → (1 ≤ n) × (n ≤ 4294967295)
-unfolding rows
-by_is option n is fits = subst (λ (x : OptionName). IsOfKind (kind_of x) n) is fits
-
-pub value_is : (option : OptionName) (n : ℕ) → option ≡ o.Value → IsOfKind (kind_of option) n → (1 ≤ n) × (n ≤ 4294967295)
-unfolding rows
-value_is option n is fits = subst (λ (x : OptionName). IsOfKind (kind_of x) n) is fits

@@ -8,7 +8,7 @@ use Rattle.distinct_arguments.specs.Precision.{size_of}
 use Rattle.distinct_arguments.specs.Shares.{ShareNumbers, share_of}
 use Rattle.distinct_arguments.specs.Table.{rows, has_row, option_of, name_of, short_of, kind_of}
 use Rattle.distinct_arguments.specs.Settings.{OptionValues, Mistake, seed_number, unknown_option, wrong_value, seed_in, value_or, with_seed}
-use Rattle.distinct_arguments.specs.Settings.{set_number, set_text, value_of, with_value}
+use Rattle.distinct_arguments.specs.Settings.{ColumnValue, column_of, set_column, set_number, set_text, value_of, with_value}
 use Rattle.distinct_arguments.specs.Arguments.{fails, run_action, command_action}
 use Rattle.distinct_arguments.specs.Texts.{ListsOptions}
 use Rattle.distinct_arguments.specs.declared.commands.Command.{Command}
@@ -27,7 +27,10 @@ unfolding rows
 once o.Field = refl
 once o.Separator = refl
 once o.Csv = refl
+once o.Blanks = refl
+once o.Crlf = refl
 once o.Header = refl
+once o.PerFile = refl
 once o.Value = refl
 once o.Summary = refl
 once o.Visits = refl
@@ -63,7 +66,10 @@ unfolding rows
 named o.Field = refl
 named o.Separator = refl
 named o.Csv = refl
+named o.Blanks = refl
+named o.Crlf = refl
 named o.Header = refl
+named o.PerFile = refl
 named o.Value = refl
 named o.Summary = refl
 named o.Visits = refl
@@ -98,7 +104,10 @@ unfolding rows
 short_named o.Field = refl
 short_named o.Separator = refl
 short_named o.Csv = tt
+short_named o.Blanks = tt
+short_named o.Crlf = tt
 short_named o.Header = tt
+short_named o.PerFile = tt
 short_named o.Value = tt
 short_named o.Summary = tt
 short_named o.Visits = tt
@@ -169,6 +178,10 @@ listed_similarity : ListsOptions command.Similarity
 unfolding rows
 listed_similarity = refl
 
+listed_matrix : ListsOptions command.Matrix
+unfolding rows
+listed_matrix = refl
+
 pub listed : (c : Command) → ListsOptions c
 listed command.Count = listed_count
 listed command.Sketch = listed_sketch
@@ -180,13 +193,17 @@ listed command.Eval = listed_eval
 listed command.Visits = listed_visits
 listed command.Sum = listed_sum
 listed command.Similarity = listed_similarity
+listed command.Matrix = listed_matrix
 
 -- a number, a text and a seed that replace others
 last_number : (options : OptionValues) (option : OptionName) (m n : ℕ) → set_number (set_number options option m) option n ≡ set_number options option n
 last_number options o.Field m n = refl
 last_number options o.Separator m n = refl
 last_number options o.Csv m n = refl
+last_number options o.Blanks m n = refl
+last_number options o.Crlf m n = refl
 last_number options o.Header m n = refl
+last_number options o.PerFile m n = refl
 last_number options o.Value m n = refl
 last_number options o.Summary m n = refl
 last_number options o.Visits m n = refl
@@ -220,7 +237,10 @@ last_text : (options : OptionValues) (option : OptionName) (m n : List ℕ) → 
 last_text options o.Field m n = refl
 last_text options o.Separator m n = refl
 last_text options o.Csv m n = refl
+last_text options o.Blanks m n = refl
+last_text options o.Crlf m n = refl
 last_text options o.Header m n = refl
+last_text options o.PerFile m n = refl
 last_text options o.Value m n = refl
 last_text options o.Summary m n = refl
 last_text options o.Visits m n = refl
@@ -249,6 +269,43 @@ last_text options o.OutputDir m n = refl
 last_text options o.Output m n = refl
 last_text options o.Force m n = refl
 last_text options o.Quiet m n = refl
+
+last_column : (options : OptionValues) (option : OptionName) (m n : ColumnValue) → set_column (set_column options option m) option n ≡ set_column options option n
+last_column options o.Field m n = refl
+last_column options o.Separator m n = refl
+last_column options o.Csv m n = refl
+last_column options o.Blanks m n = refl
+last_column options o.Crlf m n = refl
+last_column options o.Header m n = refl
+last_column options o.PerFile m n = refl
+last_column options o.Value m n = refl
+last_column options o.Summary m n = refl
+last_column options o.Visits m n = refl
+last_column options o.Keys m n = refl
+last_column options o.Sums m n = refl
+last_column options o.Hex m n = refl
+last_column options o.FileList m n = refl
+last_column options o.Part m n = refl
+last_column options o.Dir m n = refl
+last_column options o.LgK m n = refl
+last_column options o.Error m n = refl
+last_column options o.Seed m n = refl
+last_column options o.SeedFile m n = refl
+last_column options o.By m n = refl
+last_column options o.Groups m n = refl
+last_column options o.Expect m n = refl
+last_column options o.Sort m n = refl
+last_column options o.Min m n = refl
+last_column options o.Top m n = refl
+last_column options o.Progress m n = refl
+last_column options o.Bounds m n = refl
+last_column options o.Tsv m n = refl
+last_column options o.Json m n = refl
+last_column options o.Human m n = refl
+last_column options o.OutputDir m n = refl
+last_column options o.Output m n = refl
+last_column options o.Force m n = refl
+last_column options o.Quiet m n = refl
 
 abbrev value_in : OptionValues → Result OptionValues Mistake → OptionValues
 value_in options (Ok values) = values
@@ -294,6 +351,8 @@ last_of_kind : (k : Kind) (options between : OptionValues) (option : OptionName)
 last_of_kind kind.Flag options between option name other first last is = refl
 last_of_kind (kind.Number least greatest) options between option name other first last is =
     last_read (λ o n. set_number o option n) (λ o m n. last_number o option m n) (number_of least greatest first) (number_of least greatest last) (wrong_value option first) (wrong_value option last) options between is
+last_of_kind kind.Columns options between option name other first last is =
+    last_read (λ o c. set_column o option c) (λ o m n. last_column o option m n) (column_of first) (column_of last) (wrong_value option first) (wrong_value option last) options between is
 last_of_kind kind.Byte options between option name other first last is =
     last_read set_separator (λ o m n. refl) (byte_of first) (byte_of last) (wrong_value option first) (wrong_value option last) options between is
 last_of_kind kind.Seed options between option name other first last is = last_seed (seed_in first) (seed_in last) options between is

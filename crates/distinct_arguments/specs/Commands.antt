@@ -3,7 +3,7 @@ use Rattle.std.specs.Prelude.{ℕ, List, codes, Option, Some, None, if◌then◌
 use Rattle.std.specs.Str.{bytes_eq}
 use Rattle.distinct_arguments.specs.declared.commands.Command.{Command}
 use Rattle.distinct_arguments.specs.declared.commands.Command.TheVariants.{Count, Sketch, Combine, Show, Eval}
-use Rattle.distinct_arguments.specs.declared.commands.Command.TheVariants.{Visits, Sum, Similarity}
+use Rattle.distinct_arguments.specs.declared.commands.Command.TheVariants.{Visits, Sum, Similarity, Matrix}
 use Rattle.distinct_arguments.specs.declared.commands.Operator.TheVariants.{Union, Meet, Minus}
 
 -- the command that a word names
@@ -18,7 +18,8 @@ command_of word =
     if bytes_eq word (codes "eval") then Some Eval else
     if bytes_eq word (codes "visits") then Some Visits else
     if bytes_eq word (codes "sum") then Some Sum else
-    if bytes_eq word (codes "similarity") then Some Similarity else None
+    if bytes_eq word (codes "similarity") then Some Similarity else
+    if bytes_eq word (codes "matrix") then Some Matrix else None
 
 -- the word of a command
 abbrev pub word_of : Command → List ℕ
@@ -32,3 +33,4 @@ word_of Eval = codes "eval"
 word_of Visits = codes "visits"
 word_of Sum = codes "sum"
 word_of Similarity = codes "similarity"
+word_of Matrix = codes "matrix"

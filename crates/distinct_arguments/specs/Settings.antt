@@ -1,7 +1,8 @@
 -- The values of a command's options.
-use Rattle.std.specs.Prelude.{ℕ, ◌≤◌, ◌-◌, ◌==◌, Bool, true, false, List, Option, Some, None, is_some, Result, Ok, Err}
+use Rattle.std.specs.Prelude.{ℕ, ◌≤◌, ◌-◌, ◌==◌, ◌||◌, Bool, true, false, List, Option, Some, None, is_some, Result, Ok, Err}
 use Rattle.std.specs.Prelude.{if◌then◌else◌}
 use Rattle.std.specs.Option.{option_map, option_map_or, unwrap_or}
+use Rattle.std.specs.Str.{all_ascii_digits}
 use Rattle.sketch_base.specs.Seed.{seed_hash}
 use Rattle.sketch_base.specs.declared.seed.TheConstants.{DEFAULT_UPDATE_SEED}
 use Rattle.keys_lines.specs.declared.key.Key.{Key}
@@ -15,6 +16,8 @@ use Rattle.distinct_arguments.specs.declared.commands.Command.{Command}
 use Rattle.distinct_arguments.specs.declared.commands.Command.TheVariants.{Combine, Count, Show, Visits as VisitsCommand}
 use Rattle.distinct_arguments.specs.declared.commands.Operator.TheVariants.{Meet, Minus}
 use Rattle.distinct_arguments.specs.declared.options.Form.{Form}
+use Rattle.distinct_arguments.specs.declared.options.Column.{Column}
+use Rattle.distinct_arguments.specs.declared.options.Column.TheVariants as column
 use Rattle.distinct_arguments.specs.declared.options.Order.{Order}
 use Rattle.distinct_arguments.specs.declared.options.Mode.{Mode}
 use Rattle.distinct_arguments.specs.declared.options.Mode.TheVariants.{Sum as SumMode}
@@ -23,10 +26,10 @@ use Rattle.distinct_arguments.specs.declared.options.Seed.{Seed as SeedOf}
 use Rattle.distinct_arguments.specs.declared.options.Seed.TheVariants.{Number as NumberSeed, File as FileSeed}
 use Rattle.distinct_arguments.specs.declared.options.Options.{Options}
 use Rattle.distinct_arguments.specs.declared.table.OptionName.{OptionName}
-use Rattle.distinct_arguments.specs.declared.table.OptionName.TheVariants.{Field, Separator, Csv, Header, Value, Summary, Visits, Keys, Sums}
+use Rattle.distinct_arguments.specs.declared.table.OptionName.TheVariants.{Field, Separator, Csv, Blanks, Crlf, Header, Value, Summary, Visits, Keys, Sums}
 use Rattle.distinct_arguments.specs.declared.table.OptionName.TheVariants.{Hex, FileList, Part, Dir, LgK, Error, Seed, SeedFile, By}
 use Rattle.distinct_arguments.specs.declared.table.OptionName.TheVariants.{Groups, Expect, Sort, Min, Top, Progress, Bounds, Tsv}
-use Rattle.distinct_arguments.specs.declared.table.OptionName.TheVariants.{Json, Human, OutputDir, Output, Force, Quiet}
+use Rattle.distinct_arguments.specs.declared.table.OptionName.TheVariants.{Json, Human, OutputDir, Output, Force, Quiet, PerFile}
 use Rattle.distinct_arguments.specs.declared.table.Kind.{Kind}
 use Rattle.distinct_arguments.specs.declared.table.Kind.TheVariants as kind
 use Rattle.distinct_arguments.specs.Table.{kind_of}
@@ -40,14 +43,20 @@ pub data SeedValue : Type 0 where
 pub record OptionValues : Type 0 where
   pub lg_k : ℕ
   pub field : Option ℕ
+  pub field_text : Option (List ℕ)
   pub separator : Option ℕ
   pub csv : Bool
+  pub blanks : Bool
+  pub crlf : Bool
   pub header : Bool
+  pub per_file : Bool
   pub by : Option ℕ
+  pub by_text : Option (List ℕ)
   pub sort : Option Order
   pub least : Option ℕ
   pub most : Option ℕ
   pub value : Option ℕ
+  pub value_text : Option (List ℕ)
   pub summary : Option Mode
   pub visits : Bool
   pub groups : Bool
@@ -83,14 +92,20 @@ abbrev pub default_options : Command → OptionValues
 default_options command = record {
   lg_k = default_lg_k command;
   field = None;
+  field_text = None;
   separator = None;
   csv = false;
+  blanks = false;
+  crlf = false;
   header = false;
+  per_file = false;
   by = None;
+  by_text = None;
   sort = None;
   least = None;
   most = None;
   value = None;
+  value_text = None;
   summary = None;
   visits = false;
   groups = false;
@@ -112,21 +127,26 @@ default_options command = record {
   quiet = false;
 }
 
--- the byte between the fields of a line: by default a tab (9), and the unit separator (31) in the lines that records are read as
+-- the byte between the fields of a line: by default a tab (9), also for fields that blanks separate, and the unit separator (31)
+-- in the lines that records are read as
 abbrev pub between : OptionValues → ℕ
-between options = if options.csv then 31 else unwrap_or options.separator 9
+between options = if options.csv then 31 else (if options.blanks then 9 else unwrap_or options.separator 9)
+
+-- texts choose fields; each line is then read as its key, its group and its number, with the record separator (30) between two
+abbrev pub has_texts : OptionValues → Bool
+has_texts options = is_some options.field_text || is_some options.by_text || is_some options.value_text
 
 -- the key that options choose: the field of their number, the first being 1, or the whole line
 abbrev pub chosen_key : OptionValues → Key
-chosen_key options = option_map_or (λ number. FieldKey (number - 1) (between options)) options.field Line
+chosen_key options = if has_texts options then FieldKey 0 30 else option_map_or (λ number. FieldKey (number - 1) (between options)) options.field Line
 
 -- the key by which options group lines, if they do: the field of its number, the first being 1
 abbrev pub chosen_group : OptionValues → Option Key
-chosen_group options = option_map (λ number. FieldKey (number - 1) (between options)) options.by
+chosen_group options = option_map (λ number. if has_texts options then FieldKey 1 30 else FieldKey (number - 1) (between options)) options.by
 
 -- the part of a line that has its number, if options choose one: the field of its number, the first being 1
 abbrev pub chosen_value : OptionValues → Option Key
-chosen_value options = option_map (λ number. FieldKey (number - 1) (between options)) options.value
+chosen_value options = option_map (λ number. if has_texts options then FieldKey 2 30 else FieldKey (number - 1) (between options)) options.value
 
 -- how the numbers of a key are combined: by default they are added
 abbrev pub chosen_mode : OptionValues → Mode
@@ -171,7 +191,10 @@ abbrev pub is_given : OptionValues → OptionName → Bool
 is_given options Field = is_some options.field
 is_given options Separator = is_some options.separator
 is_given options Csv = options.csv
+is_given options Blanks = options.blanks
+is_given options Crlf = options.crlf
 is_given options Header = options.header
+is_given options PerFile = options.per_file
 is_given options Value = is_some options.value
 is_given options Summary = is_some options.summary
 is_given options Visits = options.visits
@@ -205,7 +228,10 @@ is_given options Quiet = options.quiet
 abbrev pub set_flag : OptionValues → OptionName → OptionValues
 set_flag options Progress = record options { progress = true }
 set_flag options Csv = record options { csv = true }
+set_flag options Blanks = record options { blanks = true }
+set_flag options Crlf = record options { crlf = true }
 set_flag options Header = record options { header = true }
+set_flag options PerFile = record options { per_file = true }
 set_flag options Hex = record options { hex = true }
 set_flag options Keys = record options { keys = true }
 set_flag options Visits = record options { visits = true }
@@ -221,13 +247,43 @@ set_flag options _ = options
 -- the options after an option whose value is a number
 abbrev pub set_number : OptionValues → OptionName → ℕ → OptionValues
 set_number options LgK n = record options { lg_k = n }
-set_number options Field n = record options { field = Some n }
-set_number options By n = record options { by = Some n }
-set_number options Value n = record options { value = Some n }
 set_number options Expect n = record options { expected = Some n }
 set_number options Min n = record options { least = Some n }
 set_number options Top n = record options { most = Some n }
 set_number options _ n = options
+
+-- what chooses fields: a number, or a text that isn't one
+pub data ColumnValue : Type 0 where
+  numbered : ℕ → ColumnValue
+  texted : List ℕ → ColumnValue
+
+abbrev pub column_value : Column → ColumnValue
+column_value (column.Number n) = numbered n
+column_value (column.Text text) = texted text.now
+
+-- the number that chooses a field, or 1; and the text that chooses fields, if one does
+abbrev pub number_in : ColumnValue → ℕ
+number_in (numbered n) = n
+number_in (texted text) = 1
+
+abbrev pub text_in : ColumnValue → Option (List ℕ)
+text_in (numbered n) = None
+text_in (texted text) = Some text
+
+-- what a word chooses: a field from 1 to 2^32 - 1, or a text if it isn't all of digits
+abbrev pub column_or : (word : List ℕ) → Option ℕ → Option ColumnValue
+column_or word None = if all_ascii_digits word then None else Some (texted word)
+column_or word (Some n) = Some (numbered n)
+
+abbrev pub column_of : (word : List ℕ) → Option ColumnValue
+column_of word = column_or word (number_of 1 4294967295 word)
+
+-- the options after an option that chooses fields
+abbrev pub set_column : OptionValues → OptionName → ColumnValue → OptionValues
+set_column options Field c = record options { field = Some (number_in c); field_text = text_in c }
+set_column options By c = record options { by = Some (number_in c); by_text = text_in c }
+set_column options Value c = record options { value = Some (number_in c); value_text = text_in c }
+set_column options _ c = options
 
 -- the options after an option whose value may be any text
 abbrev pub set_text : OptionValues → OptionName → (value : List ℕ) → OptionValues
@@ -280,6 +336,7 @@ abbrev pub value_of : Kind → OptionValues → OptionName → (name value : Lis
 value_of kind.Flag options option name value = Err (unneeded_value name)
 value_of (kind.Number least greatest) options option name value =
     value_or (wrong_value option value) (λ n. set_number options option n) (number_of least greatest value)
+value_of kind.Columns options option name value = value_or (wrong_value option value) (λ c. set_column options option c) (column_of value)
 value_of kind.Byte options option name value = value_or (wrong_value option value) (λ byte. record options { separator = Some byte }) (byte_of value)
 value_of kind.Seed options option name value = with_seed options (seed_in value)
 value_of kind.Deviations options option name value = value_or (wrong_value option value) (λ d. record options { bounds = Some d }) (deviations_of value)
@@ -301,14 +358,20 @@ abbrev pub options_of : Options → OptionValues
 options_of o = record {
   lg_k = o.lg_k;
   field = o.field;
+  field_text = option_map (λ text. text.now) o.field_text;
   separator = o.separator;
   csv = o.csv;
+  blanks = o.blanks;
+  crlf = o.crlf;
   header = o.header;
+  per_file = o.per_file;
   by = o.by;
+  by_text = option_map (λ text. text.now) o.by_text;
   sort = o.sort;
   least = o.least;
   most = o.most;
   value = o.value;
+  value_text = option_map (λ text. text.now) o.value_text;
   summary = o.summary;
   visits = o.visits;
   groups = o.groups;

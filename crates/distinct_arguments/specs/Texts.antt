@@ -8,10 +8,10 @@ use Rattle.distinct_arguments.specs.declared.commands.Command.{Command}
 use Rattle.distinct_arguments.specs.declared.commands.Topic.{Topic}
 use Rattle.distinct_arguments.specs.declared.commands.Topic.TheVariants.{Program, Version, Help}
 use Rattle.distinct_arguments.specs.declared.commands.Command.TheVariants.{Count, Sketch, Combine, Show, Eval}
-use Rattle.distinct_arguments.specs.declared.commands.Command.TheVariants.{Visits, Sum, Similarity}
+use Rattle.distinct_arguments.specs.declared.commands.Command.TheVariants.{Visits, Sum, Similarity, Matrix}
 use Rattle.distinct_arguments.specs.declared.commands.Operator.TheVariants.{Union, Meet, Minus}
 use Rattle.distinct_arguments.specs.declared.help.TheConstants.{VERSION, HELP, COUNT, SKETCH, UNION, MEET, MINUS}
-use Rattle.distinct_arguments.specs.declared.help.TheConstants.{SHOW, EVAL, VISITS, SUM, SIMILARITY}
+use Rattle.distinct_arguments.specs.declared.help.TheConstants.{SHOW, EVAL, VISITS, SUM, SIMILARITY, MATRIX}
 
 -- the bytes of the text on a topic: exactly those of its constant
 abbrev pub text_of : Topic → List ℕ
@@ -27,6 +27,7 @@ text_of (Help Eval) = EVAL.now
 text_of (Help Visits) = VISITS.now
 text_of (Help Sum) = SUM.now
 text_of (Help Similarity) = SIMILARITY.now
+text_of (Help Matrix) = MATRIX.now
 
 -- how the line of an option begins in a help: with its names, each in its column
 abbrev pub line_of : Row → List ℕ

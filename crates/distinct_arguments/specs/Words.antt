@@ -11,7 +11,7 @@ use Rattle.estimates.specs.declared.bounds.Deviations.{Deviations}
 use Rattle.estimates.specs.declared.bounds.Deviations.TheVariants.{One, Two, Three}
 use Rattle.distinct_arguments.specs.declared.commands.Command.{Command}
 use Rattle.distinct_arguments.specs.declared.commands.Command.TheVariants.{Count, Sketch, Combine, Show, Eval}
-use Rattle.distinct_arguments.specs.declared.commands.Command.TheVariants.{Visits, Sum, Similarity}
+use Rattle.distinct_arguments.specs.declared.commands.Command.TheVariants.{Visits, Sum, Similarity, Matrix}
 use Rattle.distinct_arguments.specs.declared.options.Order.{Order}
 use Rattle.distinct_arguments.specs.declared.options.Order.TheVariants.{Name, Estimate}
 use Rattle.distinct_arguments.specs.declared.options.Mode.{Mode}
@@ -83,6 +83,7 @@ reads_lines Eval = false
 reads_lines Visits = true
 reads_lines Sum = true
 reads_lines Similarity = false
+reads_lines Matrix = false
 
 -- the command that reads an expression
 abbrev pub reads_expression : Command → Bool

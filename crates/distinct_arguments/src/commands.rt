@@ -29,6 +29,8 @@ pub enum Command {
     Sum,
     /// Prints how similar two images are.
     Similarity,
+    /// Prints how similar each two of several images are.
+    Matrix,
 }
 
 /// What the program prints without reading a file.

@@ -116,6 +116,10 @@ impl fmt::Display for Kind {
         match *self {
             Kind::Flag => write!(f, "no value"),
             Kind::Number(least, greatest) => write!(f, "a number from {least} to {greatest}"),
+            Kind::Columns => write!(
+                f,
+                "a number from 1 to 4294967295, or numbers and names, as 1,3 or user"
+            ),
             Kind::Byte => write!(f, "one byte"),
             Kind::Seed => write!(f, "a number from 0 to {}", u64::MAX),
             Kind::Deviations => write!(f, "1, 2 or 3, as in --bounds=2"),

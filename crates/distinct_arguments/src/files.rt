@@ -61,6 +61,7 @@ fn reads_lines(command: Command) -> bool
         Command::Visits => true,
         Command::Sum => true,
         Command::Similarity => false,
+        Command::Matrix => false,
     }
 }
 

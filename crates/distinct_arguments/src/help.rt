@@ -17,10 +17,12 @@ sketches of them, which can be united, intersected and subtracted
   distinct visits access.log             prints how many lines occur how often
   distinct sum --value 3 spent.txt       prints the total of a field's numbers
   distinct similarity a.theta b.theta    prints how similar two sketches are
+  distinct matrix *.theta                prints how similar each two of many are
 
 Commands: count, sketch, union, meet, minus, show, eval, visits, sum,
-similarity. distinct COMMAND --help has the options and more examples of each,
--h too; docs/use/DISTINCT.md has the rest. --version and -V print the version.
+similarity, matrix. distinct COMMAND --help has the options and more examples
+of each, -h too; docs/use/DISTINCT.md has the rest. --version and -V print the
+version.
 
 Options may stand before and behind files, until -- ends them. A file named -
 is standard input. A command that reads lines does so from there if it has no
@@ -37,13 +39,16 @@ exactly or estimated
 Read:
   -f, --field N           use field N as a line's key, counted from 1 as in cut -f N. A line
                           without a separator is its own key, and a line of fewer fields has the
-                          empty key
+                          empty key. N may be several fields, as 1,3; names in the first line of
+                          each file; or the front of one, as 1:13 for its first 13 bytes
   -d, --separator C       the byte between fields, with --field or --by; default a tab
       --csv               the files have records of CSV (RFC 4180), not lines: a field between
                           quotes may have separators, quotes and line ends in it, but none of the
                           last in a field that is used. The separator is a comma then. Not with
                           --part or --groups
-      --header            with --csv: pass over the first record of each file
+      --blanks            fields are separated by one or more blanks: spaces and tabs
+      --crlf              a CR at the end of a line is no part of it
+      --header            pass over the first line, or record, of each file. Not with --part
       --hex               images in hexadecimal, one per line. Needs --groups
       --files0-from FILE  read the names of the files from FILE, each ended by a NUL byte
       --part I/N          read part I of N of each file's lines, I from 1 to N. A line is in the
@@ -58,11 +63,14 @@ Count:
                           as 0.4%. P is from 0.0123 to 100. Of --lg-k and --error the last counts
       --seed N            the seed of the hashes, from 0 to 2^64 - 1; default 9001
       --seed-file FILE    read the seed from FILE, which keeps it out of the process list
-      --by N              count each group of lines that have the same field N, as in cut -f N.
+      --by N              count each group of lines that have the same field N, as for --field.
                           Print a line per group, in ascending order: its name, a tab, its count
       --groups            with --hex: count the union of the images of each group. A line has the
                           name of a group, a tab and an image, as sketch and union write them. Not
                           with --by, --field, --part or --progress
+      --per-file          count each file by itself. Print a line per file: its count, a tab, its
+                          name; in tables and JSON the name is first. Not with --by, --groups or
+                          --progress
 
 Print:
       --sort ORDER        the order of groups: name, the default, or estimate, the greatest first
@@ -84,19 +92,23 @@ Examples:
   distinct count -f2 -d' ' access.log                  how many values field 2 has
   distinct count --by 1 --sort estimate --top 9 a.log  the nine largest groups
   distinct count --hex --groups a.groups b.groups      the groups of both files
+  distinct count --per-file *.log                      a count per file, as wc -l prints lines
 ";
 
 const SKETCH: &str = "\
 distinct sketch [OPTION..] [FILE..]: writes the sketch of the files' lines as an image
 
 Read:
-  -f, --field N           use field N as a line's key, counted from 1 as in cut -f N
+  -f, --field N           use field N as a line's key, counted from 1 as in cut -f N, or 1,3,
+                          names in the first line of each file, or 1:13 (see count --help)
   -d, --separator C       the byte between fields, with --field, --by or --value; default a tab
       --csv               the files have records of CSV (RFC 4180), not lines: a field between
                           quotes may have separators, quotes and line ends in it, but none of the
                           last in a field that is used. The separator is a comma then. Not with
                           --part
-      --header            with --csv: pass over the first record of each file
+      --blanks            fields are separated by one or more blanks: spaces and tabs
+      --crlf              a CR at the end of a line is no part of it
+      --header            pass over the first line, or record, of each file. Not with --part
       --value M           write an image of sums: for each key, the sum of field M (see distinct
                           sum --help). Not with --by or --progress
       --summary MODE      with --value: keep for each key the sum of its numbers, the least or the
@@ -260,8 +272,12 @@ distinct lines it has, exactly or estimated, how many hashes it retains, and its
 
 Read:
   -f, --field N           with --keys: use field N as a line's key, counted from 1 as in cut -f
-                          N
+                          N, or 1,3, names in the first line of each file, or 1:13
   -d, --separator C       the byte between fields, with --field; default a tab
+      --csv               with --keys: the files have records of CSV (see count --help)
+      --blanks            with --keys: fields are separated by one or more blanks
+      --crlf              with --keys: a CR at the end of a line is no part of it
+      --header            with --keys: pass over the first line, or record, of each file
       --keys              the files have lines, not images: sketch each with 2^N hashes
       --sums              read images of sums and print the total, an estimate if keys were
                           dropped. + and & add the sums of a key, - keeps the sums on its left.
@@ -298,13 +314,16 @@ times, 5 to 8 times and so on, a line for each range up to that of the most freq
 retained
 
 Read:
-  -f, --field N           use field N as a line's key, counted from 1 as in cut -f N
+  -f, --field N           use field N as a line's key, counted from 1 as in cut -f N, or 1,3,
+                          names in the first line of each file, or 1:13 (see count --help)
   -d, --separator C       the byte between fields, with --field; default a tab
       --csv               the files have records of CSV (RFC 4180), not lines: a field between
                           quotes may have separators, quotes and line ends in it, but none of the
                           last in a field that is used. The separator is a comma then. Not with
                           --part or --sums
-      --header            with --csv: pass over the first record of each file
+      --blanks            fields are separated by one or more blanks: spaces and tabs
+      --crlf              a CR at the end of a line is no part of it
+      --header            pass over the first line, or record, of each file. Not with --part
       --sums              read images of sums, at least one, as sketch writes them of visits,
                           and count the lines of all. Pass the same --lg-k as to sketch, --field
                           to sketch only
@@ -340,16 +359,20 @@ distinct sum --value M [OPTION..] [FILE..]: prints the exact total of the number
 all lines; with --tsv and --json also how many distinct keys they have
 
 Read:
-  -f, --field N           use field N as a line's key, counted from 1 as in cut -f N; default
-                          the line
+  -f, --field N           use field N as a line's key, counted from 1 as in cut -f N, or 1,3,
+                          names in the first line of each file, or 1:13 (see count --help);
+                          default the line
   -d, --separator C       the byte between fields; default a tab
       --csv               the files have records of CSV (RFC 4180), not lines: a field between
                           quotes may have separators, quotes and line ends in it, but none of the
                           last in a field that is used. The separator is a comma then. Not with
                           --part
-      --header            with --csv: pass over the first record of each file
-      --value M           add up field M, counted from 1 as in cut -f M: decimal digits only,
-                          below 2^64. A line without such a number is an error
+      --blanks            fields are separated by one or more blanks: spaces and tabs
+      --crlf              a CR at the end of a line is no part of it
+      --header            pass over the first line, or record, of each file. Not with --part
+      --value M           add up field M, counted from 1 as in cut -f M, or the one of this name
+                          in the first line of each file: decimal digits only, below 2^64. A
+                          line without such a number is an error
       --files0-from FILE  read the names of the files from FILE, each ended by a NUL byte
       --part I/N          read part I of N of each file's lines, I from 1 to N. A line is in the
                           part in whose range of bytes it begins; the ranges are equal. Files must
@@ -401,6 +424,37 @@ Examples:
   distinct similarity --json mon.theta tue.theta  with bounds and hashes, for a program
 ";
 
+const MATRIX: &str = "\
+distinct matrix [OPTION..] IMAGE IMAGE..: prints a line for each two of the sketches, in the order
+of the images, with tabs between: the names of both, how many lines both saw, how many the first
+alone and how many the second alone, and their similarity, as distinct similarity prints it
+
+  The numbers of lines are those that distinct eval prints of A & B, A - B and B - A: exact if
+  both sketches are, else estimates from the hashes that they retain below the lesser theta. Each
+  image is read once.
+
+Read:
+      --hex               images in hexadecimal, one per line. An image is named by its file and
+                          the number of its line, as in day.hex:3
+      --files0-from FILE  read the names of the files from FILE, each ended by a NUL byte
+  -C DIR                  names of files are relative to the folder DIR
+
+Count:
+      --seed N            the seed of the images, from 0 to 2^64 - 1; default 9001
+      --seed-file FILE    read the seed from FILE, which keeps it out of the process list
+
+Print:
+      --bounds[=Z]        print the similarity with its lower and its upper bound behind it, for Z
+                          standard deviations; Z is 1, 2 or 3, default 2
+      --tsv               print values separated by tabs, under a line of their names
+      --json              print a JSON object per pair, each on a line
+  -q, --quiet             print no remarks and warnings on standard error
+
+Examples:
+  distinct matrix mon.theta tue.theta wed.theta  what each two of three days have in common
+  distinct matrix --json *.theta                 the same, for a program
+";
+
 /// The text on a topic.
 pub fn text_of(topic: Topic) -> &'static str
     ensures { result.now ≡ text_of topic }
@@ -418,5 +472,6 @@ pub fn text_of(topic: Topic) -> &'static str
         Topic::Help(Command::Visits) => VISITS,
         Topic::Help(Command::Sum) => SUM,
         Topic::Help(Command::Similarity) => SIMILARITY,
+        Topic::Help(Command::Matrix) => MATRIX,
     }
 }

@@ -41,29 +41,53 @@ pub enum Mode {
     Max,
 }
 
+/// What chooses fields of a line.
+#[derive(Clone, Copy, Debug, PartialEq, Eq)]
+pub enum Column<'a> {
+    /// The number of a field, from 1.
+    Number(u32),
+    /// A text of numbers and names, which isn't a number.
+    Text(&'a str),
+}
+
 /// The options of a command.
 #[derive(Clone, Copy, Debug)]
 pub struct Options<'a> {
     /// The binary logarithm of the nominal entries, from 4 to 26.
     pub lg_k: u8,
-    /// The number of the field that is a line's key, from 1, or `None` if the whole line is its key.
+    /// The number of the field that is a line's key, from 1, or `None` if the whole line is its key; 1 if a text chooses
+    /// fields.
     pub field: Option<u32>,
+    /// The text that chooses the fields of a line's key, if one does.
+    pub field_text: Option<&'a str>,
     /// The byte between fields; a tab if `None`, and a comma between those of records.
     pub separator: Option<u8>,
     /// Whether files have records of CSV (RFC 4180), and not lines.
     pub csv: bool,
-    /// Whether the first record of each file has the names of the fields.
+    /// Whether fields are separated by one or more blanks.
+    pub blanks: bool,
+    /// Whether a CR in front of a line's LF is a part of the line's end.
+    pub crlf: bool,
+    /// Whether the first line, or record, of each file is passed over.
     pub header: bool,
-    /// The number of the field that is the name of a line's group, from 1, or `None` if lines are not grouped.
+    /// Whether each file is counted by itself.
+    pub per_file: bool,
+    /// The number of the field that is the name of a line's group, from 1, or `None` if lines are not grouped; 1 if a text
+    /// chooses fields.
     pub by: Option<u32>,
+    /// The text that chooses the fields of a line's group, if one does.
+    pub by_text: Option<&'a str>,
     /// The order in which groups are printed; by name if `None`.
     pub sort: Option<Order>,
     /// The least estimate of a group that is printed, from 1 if it was read from arguments; none if `None`.
     pub least: Option<u64>,
     /// How many groups are printed at most, from 1 if it was read from arguments; all if `None`.
     pub most: Option<u64>,
-    /// The number of the field that has the number of a line, from 1, or `None` if no numbers are read.
+    /// The number of the field that has the number of a line, from 1, or `None` if no numbers are read; 1 if a text
+    /// chooses it.
     pub value: Option<u32>,
+    /// The text that chooses the field of a line's number, if one does.
+    pub value_text: Option<&'a str>,
     /// How the numbers of a key are combined; added if `None`.
     pub summary: Option<Mode>,
     /// Whether each line adds one to a sum.

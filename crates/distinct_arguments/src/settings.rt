@@ -1,7 +1,8 @@
 //! What options do to the values of options.
-ghost use Rattle.std.specs.Prelude.{◌≡◌, ◌≤◌, ◌<◌};
+ghost use Rattle.std.specs.Prelude.{◌≡◌, ◌≤◌, ◌<◌, IfSome};
 ghost use Rattle.std.specs.Option.{option_map};
 ghost use Rattle.distinct_arguments.specs.Settings.{default_lg_k, default_options, between, chosen_key, chosen_group, chosen_mode, chosen_value};
+ghost use Rattle.distinct_arguments.specs.Settings.{column_of, column_value, has_texts, number_in, set_column, text_in};
 ghost use Rattle.distinct_arguments.specs.Settings.{given_or, is_file, is_given, seed_in, seed_value, wrong_value};
 ghost use Rattle.distinct_arguments.specs.Settings.{options_of, set_flag, set_number, set_text, with_flag, with_value};
 ghost use Rattle.distinct_arguments.specs.Settings.{IsOfKind};
@@ -10,10 +11,10 @@ ghost use Rattle.distinct_arguments.specs.Table.{kind_of};
 
 use crate::commands::{Command, Operator};
 use crate::fault::{Fault, WrongWord, quoting};
-use crate::options::{Form, Mode, Options, Seed};
+use crate::options::{Column, Form, Mode, Options, Seed};
 use crate::precision::size_of;
 use crate::table::{Kind, OptionName, kind_of};
-use crate::words::{byte_of, deviations_of, mode_of, number_of, order_of, share_of};
+use crate::words::{byte_of, deviations_of, is_digits, mode_of, number_of, order_of, share_of};
 use core_laws::DEFAULT_LG_K;
 use estimates::Deviations;
 use keys_lines::Key;
@@ -24,8 +25,12 @@ use std::alloc::Global;
 const TAB: u8 = b'\t';
 /// The separator of fields in the lines that records are read as: the unit separator of ASCII.
 const BETWEEN: u8 = 31;
+/// The byte between the parts of a line that texts choose: the record separator of ASCII.
+const PARTS: u8 = 30;
 /// The default of `--lg-k` of commands that print counts: their error is then within 0.4 %.
 const COUNTING_LG_K: u8 = 16;
+/// The greatest number of a field.
+const MOST_FIELDS: u64 = 4294967295;
 /// The nominal entries of unions that drop no hash: the most that a union may have.
 const WHOLE_LG_K: u8 = 26;
 
@@ -53,14 +58,20 @@ impl<'a> Options<'a> {
         Options {
             lg_k: default_lg_k(command),
             field: None,
+            field_text: None,
             separator: None,
             csv: false,
+            blanks: false,
+            crlf: false,
             header: false,
+            per_file: false,
             by: None,
+            by_text: None,
             sort: None,
             least: None,
             most: None,
             value: None,
+            value_text: None,
             summary: None,
             visits: false,
             groups: false,
@@ -83,21 +94,33 @@ impl<'a> Options<'a> {
         }
     }
 
-    /// The byte between the fields of a line.
-    fn between(&self) -> u8
+    /// The byte between the fields of a line: 31 with `--csv`, a tab with `--blanks`, else the separator, by default a tab.
+    pub fn between(&self) -> u8
         ensures { result ≡ between (options_of self.now) }
     {
         if self.csv {
             BETWEEN
+        } else if self.blanks {
+            TAB
         } else {
             self.separator.unwrap_or(TAB)
         }
+    }
+
+    /// Whether a text chooses fields. Each line is then read as its key, its group and its number, with `PARTS` between.
+    pub fn has_texts(&self) -> bool
+        ensures { result ≡ has_texts (options_of self.now) }
+    {
+        self.field_text.is_some() || self.by_text.is_some() || self.value_text.is_some()
     }
 
     /// Which part of a line is its key.
     pub fn key(&self) -> Key
         ensures { result ≡ chosen_key (options_of self.now) }
     {
+        if self.has_texts() {
+            return Key::Field(0, PARTS);
+        }
         match self.field {
             Some(number) => Key::field(number, self.between()),
             None => Key::Line,
@@ -109,6 +132,7 @@ impl<'a> Options<'a> {
         ensures { result ≡ chosen_group (options_of self.now) }
     {
         match self.by {
+            Some(_) if self.has_texts() => Some(Key::Field(1, PARTS)),
             Some(number) => Some(Key::field(number, self.between())),
             None => None,
         }
@@ -126,6 +150,7 @@ impl<'a> Options<'a> {
         ensures { result ≡ chosen_value (options_of self.now) }
     {
         match self.value {
+            Some(_) if self.has_texts() => Some(Key::Field(2, PARTS)),
             Some(number) => Some(Key::field(number, self.between())),
             None => None,
         }
@@ -141,7 +166,10 @@ pub(crate) fn is_given(options: &Options<'_>, option: OptionName) -> bool
         OptionName::Field => options.field.is_some(),
         OptionName::Separator => options.separator.is_some(),
         OptionName::Csv => options.csv,
+        OptionName::Blanks => options.blanks,
+        OptionName::Crlf => options.crlf,
         OptionName::Header => options.header,
+        OptionName::PerFile => options.per_file,
         OptionName::Value => options.value.is_some(),
         OptionName::Summary => options.summary.is_some(),
         OptionName::Visits => options.visits,
@@ -194,7 +222,10 @@ fn set_flag<'a>(options: Options<'a>, option: OptionName) -> Options<'a>
         OptionName::Json => changed.form = Form::Json,
         OptionName::Human => changed.human = true,
         OptionName::Csv => changed.csv = true,
+        OptionName::Blanks => changed.blanks = true,
+        OptionName::Crlf => changed.crlf = true,
         OptionName::Header => changed.header = true,
+        OptionName::PerFile => changed.per_file = true,
         OptionName::Hex => changed.hex = true,
         OptionName::Keys => changed.keys = true,
         OptionName::Visits => changed.visits = true,
@@ -237,18 +268,6 @@ fn set_number<'a>(options: Options<'a>, option: OptionName, number: u64) -> Opti
             changed.lg_k = as_size(number);
             changed
         }
-        OptionName::Field => {
-            changed.field = Some(as_ordinal(number));
-            changed
-        }
-        OptionName::By => {
-            changed.by = Some(as_ordinal(number));
-            changed
-        }
-        OptionName::Value => {
-            changed.value = Some(as_ordinal(number));
-            changed
-        }
         OptionName::Expect => {
             changed.expected = Some(number);
             changed
@@ -259,6 +278,67 @@ fn set_number<'a>(options: Options<'a>, option: OptionName, number: u64) -> Opti
         }
         OptionName::Top => {
             changed.most = Some(number);
+            changed
+        }
+        _ => changed,
+    }
+}
+
+/// What a word chooses: a field, or a text if it isn't all of digits.
+fn column_of(word: &str) -> Option<Column<'_>>
+    ensures value { option_map column_value result ≡ column_of word.now }
+    ensures from_one { IfSome result (λ column. 0 < number_in (column_value column)) }
+{
+    match number_of(word, 1, MOST_FIELDS) {
+        Some(number) => Some(Column::Number(as_ordinal(number))),
+        None => if is_digits(word) {
+            None
+        } else {
+            Some(Column::Text(word))
+        },
+    }
+}
+
+/// The number that chooses a field, or 1.
+fn number_in(column: Column<'_>) -> u32
+    ensures { result ≡ number_in (column_value column.entry) }
+{
+    match column {
+        Column::Number(number) => number,
+        Column::Text(_) => 1,
+    }
+}
+
+/// The text that chooses fields, if one does.
+fn text_in<'a>(column: Column<'a>) -> Option<&'a str>
+    ensures { option_map (λ text. text.now) result ≡ text_in (column_value column.entry) }
+{
+    match column {
+        Column::Number(_) => None,
+        Column::Text(text) => Some(text),
+    }
+}
+
+/// The options after an option that chooses fields, which replaces an earlier choice.
+fn set_column<'a>(options: Options<'a>, option: OptionName, column: Column<'a>) -> Options<'a>
+    requires from_one { 0 < number_in (column_value column) }
+    ensures { options_of result ≡ set_column (options_of options.entry) option (column_value column.entry) }
+{
+    let mut changed = options;
+    match option {
+        OptionName::Field => {
+            changed.field = Some(number_in(column));
+            changed.field_text = text_in(column);
+            changed
+        }
+        OptionName::By => {
+            changed.by = Some(number_in(column));
+            changed.by_text = text_in(column);
+            changed
+        }
+        OptionName::Value => {
+            changed.value = Some(number_in(column));
+            changed.value_text = text_in(column);
             changed
         }
         _ => changed,
@@ -339,6 +419,10 @@ pub(crate) fn with_value<'a>(
         Kind::Number(least, greatest) => {
             let number = given(alloc, option, value, number_of(value, least, greatest))?;
             Ok(set_number(options, option, number))
+        }
+        Kind::Columns => {
+            let column = given(alloc, option, value, column_of(value))?;
+            Ok(set_column(options, option, column))
         }
         Kind::Byte => {
             changed.separator = Some(given(alloc, option, value, byte_of(value))?);

@@ -16,7 +16,10 @@ pub enum OptionName {
     Field,
     Separator,
     Csv,
+    Blanks,
+    Crlf,
     Header,
+    PerFile,
     Value,
     Summary,
     Visits,
@@ -54,6 +57,8 @@ pub(crate) enum Kind {
     Flag,
     /// A number from the first to the second.
     Number(u64, u64),
+    /// What chooses fields of a line: a number from 1, or a text of numbers and names.
+    Columns,
     /// One byte.
     Byte,
     /// A number from 0 to 2^64 - 1 whose seed hash isn't 0.
@@ -112,17 +117,18 @@ const ALL: &[&str] = &[
     "visits",
     "sum",
     "similarity",
+    "matrix",
 ];
-/// The greatest number of a field, and of images.
+/// The greatest number of images.
 const MOST: u64 = 4294967295;
 
 /// The options: what is read, how it is counted, and what is printed. If several rules are broken, the first counts.
-pub(crate) const OPTIONS: [Row; 32] = [
+pub(crate) const OPTIONS: [Row; 35] = [
     (
         OptionName::Field,
         "--field",
         Some("-f"),
-        Kind::Number(1, MOST),
+        Kind::Columns,
         &["count", "sketch", "eval", "visits", "sum"],
         &[(
             &["eval"],
@@ -143,8 +149,13 @@ pub(crate) const OPTIONS: [Row; 32] = [
         "--csv",
         None,
         Kind::Flag,
-        &["count", "sketch", "visits", "sum"],
+        &["count", "sketch", "eval", "visits", "sum"],
         &[
+            (
+                &["eval"],
+                Rule::Needs(OptionName::Keys),
+                ": without it eval reads images",
+            ),
             (
                 ALL,
                 Rule::Excludes(OptionName::Part),
@@ -168,18 +179,137 @@ pub(crate) const OPTIONS: [Row; 32] = [
         ],
     ),
     (
+        OptionName::Blanks,
+        "--blanks",
+        None,
+        Kind::Flag,
+        &["count", "sketch", "eval", "visits", "sum"],
+        &[
+            (
+                &["eval"],
+                Rule::Needs(OptionName::Keys),
+                ": without it eval reads images",
+            ),
+            (
+                ALL,
+                Rule::Excludes(OptionName::Csv),
+                ": one byte is between the fields of a record",
+            ),
+            (ALL, Rule::Excludes(OptionName::Separator), ""),
+            (
+                ALL,
+                Rule::Excludes(OptionName::Progress),
+                ": drop --progress",
+            ),
+            (
+                &["count"],
+                Rule::Excludes(OptionName::Groups),
+                ": pass --blanks to sketch",
+            ),
+            (
+                &["visits"],
+                Rule::Excludes(OptionName::Sums),
+                ": pass --blanks to sketch",
+            ),
+        ],
+    ),
+    (
+        OptionName::Crlf,
+        "--crlf",
+        None,
+        Kind::Flag,
+        &["count", "sketch", "eval", "visits", "sum"],
+        &[
+            (
+                &["eval"],
+                Rule::Needs(OptionName::Keys),
+                ": without it eval reads images",
+            ),
+            (
+                ALL,
+                Rule::Excludes(OptionName::Csv),
+                ": a record may end with CR LF anyway",
+            ),
+            (
+                ALL,
+                Rule::Excludes(OptionName::Progress),
+                ": drop --progress",
+            ),
+            (
+                &["count"],
+                Rule::Excludes(OptionName::Groups),
+                ": pass --crlf to sketch",
+            ),
+            (
+                &["visits"],
+                Rule::Excludes(OptionName::Sums),
+                ": pass --crlf to sketch",
+            ),
+        ],
+    ),
+    (
         OptionName::Header,
         "--header",
         None,
         Kind::Flag,
-        &["count", "sketch", "visits", "sum"],
-        &[(ALL, Rule::Needs(OptionName::Csv), "")],
+        &["count", "sketch", "eval", "visits", "sum"],
+        &[
+            (
+                &["eval"],
+                Rule::Needs(OptionName::Keys),
+                ": without it eval reads images",
+            ),
+            (
+                ALL,
+                Rule::Excludes(OptionName::Part),
+                ": only the first part has it",
+            ),
+            (
+                ALL,
+                Rule::Excludes(OptionName::Progress),
+                ": drop --progress",
+            ),
+            (
+                &["count"],
+                Rule::Excludes(OptionName::Groups),
+                ": pass --header to sketch",
+            ),
+            (
+                &["visits"],
+                Rule::Excludes(OptionName::Sums),
+                ": pass --header to sketch",
+            ),
+        ],
+    ),
+    (
+        OptionName::PerFile,
+        "--per-file",
+        None,
+        Kind::Flag,
+        &["count"],
+        &[
+            (
+                ALL,
+                Rule::Excludes(OptionName::By),
+                ": run count --by once per file",
+            ),
+            (
+                ALL,
+                Rule::Excludes(OptionName::Groups),
+                ": run count --groups once per file",
+            ),
+            (
+                ALL,
+                Rule::Excludes(OptionName::Progress),
+                ": drop --progress",
+            ),
+        ],
     ),
     (
         OptionName::Value,
         "--value",
         None,
-        Kind::Number(1, MOST),
+        Kind::Columns,
         &["sketch", "sum"],
         &[
             (
@@ -282,6 +412,7 @@ pub(crate) const OPTIONS: [Row; 32] = [
             "eval",
             "visits",
             "similarity",
+            "matrix",
         ],
         &[
             (
@@ -301,7 +432,9 @@ pub(crate) const OPTIONS: [Row; 32] = [
         "--files0-from",
         None,
         Kind::Text,
-        &["count", "sketch", "union", "meet", "show", "visits", "sum"],
+        &[
+            "count", "sketch", "union", "meet", "show", "visits", "sum", "matrix",
+        ],
         &[],
     ),
     (
@@ -353,7 +486,7 @@ pub(crate) const OPTIONS: [Row; 32] = [
         OptionName::By,
         "--by",
         None,
-        Kind::Number(1, MOST),
+        Kind::Columns,
         &["count", "sketch"],
         &[(&["sketch"], Rule::NeedsOutput, "")],
     ),
@@ -427,7 +560,7 @@ pub(crate) const OPTIONS: [Row; 32] = [
         "--bounds",
         None,
         Kind::Deviations,
-        &["count", "show", "eval", "visits", "similarity"],
+        &["count", "show", "eval", "visits", "similarity", "matrix"],
         &[],
     ),
     (
@@ -435,7 +568,15 @@ pub(crate) const OPTIONS: [Row; 32] = [
         "--tsv",
         None,
         Kind::Flag,
-        &["count", "show", "eval", "visits", "sum", "similarity"],
+        &[
+            "count",
+            "show",
+            "eval",
+            "visits",
+            "sum",
+            "similarity",
+            "matrix",
+        ],
         &[],
     ),
     (
@@ -443,7 +584,15 @@ pub(crate) const OPTIONS: [Row; 32] = [
         "--json",
         None,
         Kind::Flag,
-        &["count", "show", "eval", "visits", "sum", "similarity"],
+        &[
+            "count",
+            "show",
+            "eval",
+            "visits",
+            "sum",
+            "similarity",
+            "matrix",
+        ],
         &[],
     ),
     (
@@ -492,7 +641,7 @@ pub(crate) const OPTIONS: [Row; 32] = [
 ];
 
 /// The rows of the table.
-pub(crate) fn all_rows() -> [Row; 32]
+pub(crate) fn all_rows() -> [Row; 35]
     ensures { map row_in result ≡ rows }
 {
     OPTIONS

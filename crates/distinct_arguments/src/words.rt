@@ -1,4 +1,5 @@
 //! Single words of the arguments.
+ghost use Rattle.std.specs.Str.{all_ascii_digits};
 ghost use Rattle.std.specs.Prelude.{◌≡◌, ◌==◌, slice_index, Some};
 ghost use Rattle.std.specs.Option.{option_map};
 ghost use Rattle.distinct_arguments.specs.Commands.{command_of, word_of};
@@ -29,6 +30,7 @@ pub fn command_of(word: &str) -> Option<Command>
         "visits" => Some(Command::Visits),
         "sum" => Some(Command::Sum),
         "similarity" => Some(Command::Similarity),
+        "matrix" => Some(Command::Matrix),
         _ => None,
     }
 }
@@ -49,6 +51,7 @@ pub fn word_of(command: Command) -> &'static str
         Command::Visits => "visits",
         Command::Sum => "sum",
         Command::Similarity => "similarity",
+        Command::Matrix => "matrix",
     }
 }
 
@@ -129,7 +132,7 @@ fn begins_with_plus(word: &str) -> bool
 }
 
 /// The number that a word spells in digits, if it is from `least` to `greatest`.
-pub(crate) fn number_of(word: &str, least: u64, greatest: u64) -> Option<u64>
+pub fn number_of(word: &str, least: u64, greatest: u64) -> Option<u64>
     ensures { result ≡ number_of least greatest word.now }
 {
     if begins_with_plus(word) {
@@ -145,6 +148,26 @@ pub(crate) fn number_of(word: &str, least: u64, greatest: u64) -> Option<u64>
         }
         Err(_) => None,
     }
+}
+
+/// Whether all bytes are decimal digits.
+fn are_digits(mut bytes: &[u8]) -> bool
+    ensures { result ≡ all_ascii_digits bytes.entry.now }
+{
+    while let [byte, others @ ..] = bytes {
+        if !byte.is_ascii_digit() {
+            return false;
+        }
+        bytes = others;
+    }
+    true
+}
+
+/// Whether a word has nothing but decimal digits.
+pub(crate) fn is_digits(word: &str) -> bool
+    ensures { result ≡ all_ascii_digits word.now }
+{
+    are_digits(word.as_bytes())
 }
 
 /// The byte of a word that has just one.

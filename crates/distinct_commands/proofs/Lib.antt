@@ -10,3 +10,5 @@ pub mod GroupLines
 pub mod Answered
 pub mod Failing
 pub mod Overlaps
+pub mod Pairs
+pub mod EachFile

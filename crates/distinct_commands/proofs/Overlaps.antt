@@ -50,9 +50,9 @@ counted Empty whole t h sample theta = ap (λ xs. length (below hash_key xs t)) 
 counted (NonEmpty v) whole t h sample theta = ap length sample.all_below ∙ ap (λ u. length (below hash_key whole u)) theta
 
 -- what every sketch that is read knows of its theta
-record ThetaFacts (s : Compact ℕ) : Type 0 where
-  greatest : s.empty ≡ true → s.theta ≡ MAX_THETA
-  high : s.theta ≤ MAX_THETA
+pub record ThetaFacts (s : Compact ℕ) : Type 0 where
+  pub greatest : s.empty ≡ true → s.theta ≡ MAX_THETA
+  pub high : s.theta ≤ MAX_THETA
 
 flagged_theta : (bytes : List ℕ) (longs h : ℕ) (s : Compact ℕ) → ReadsFlagged hash_key SpellsHash bytes longs h s → ThetaFacts s
 flagged_theta bytes longs h _ (empty_image empty) = record { greatest = λ is. refl; high = omega arith }
@@ -64,7 +64,7 @@ unflagged_theta : (bytes : List ℕ) (p : Preamble) (i h : ℕ) (s : Compact ℕ
 unflagged_theta bytes p i h _ (vacant_image whole vacant) = record { greatest = λ is. refl; high = omega arith }
 unflagged_theta bytes p i h _ (filled_image xs filled same has) = record { greatest = has.lawful.greatest; high = has.lawful.theta_high }
 
-spelled_theta : (bytes : List ℕ) (h : ℕ) (s : Compact ℕ) → SpellsSketch bytes h s → ThetaFacts s
+pub spelled_theta : (bytes : List ℕ) (h : ℕ) (s : Compact ℕ) → SpellsSketch bytes h s → ThetaFacts s
 spelled_theta bytes h _ (version_3 longs s begins reads) = flagged_theta bytes longs h s reads
 spelled_theta bytes h _ (version_2_empty begins) = record { greatest = λ is. refl; high = omega arith }
 spelled_theta bytes h _ (version_2_exact s begins reads) = unflagged_theta bytes _ _ h s reads
@@ -72,7 +72,7 @@ spelled_theta bytes h _ (version_2_estimating s begins reads) = unflagged_theta 
 spelled_theta bytes h _ (version_1 longs s begins reads) = unflagged_theta bytes _ _ h s reads
 
 module _ (seed : ℕ) where
-  counts_of : (a b : Compact ℕ) (xs ys : List ℕ) → ThetaFacts a → ThetaFacts b → AreSamples hash_key (values_of_sketches (a ∷ b ∷ [])) (xs ∷ ys ∷ []) → Counts (overlap_of seed a b) xs ys
+  pub counts_of : (a b : Compact ℕ) (xs ys : List ℕ) → ThetaFacts a → ThetaFacts b → AreSamples hash_key (values_of_sketches (a ∷ b ∷ [])) (xs ∷ ys ∷ []) → Counts (overlap_of seed a b) xs ys
   counts_of a b xs ys of_a of_b samples =
       let h = seed_hash seed in
       let es = map_of hash_key a.entries in

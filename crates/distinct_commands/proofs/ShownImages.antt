@@ -2,13 +2,19 @@
 use Rattle.std.proofs.Common.{◌≡◌, ℕ, Bool, true, false, List, [], ◌∷◌, ◌++◌, Option, Some, None, refl, sym, subst, append_assoc, append-nil, inl, inr}
 use Rattle.std.specs.Prelude.{◌&&◌, IfSome, String, string_bytes}
 use Rattle.std.specs.List.{list_all}
+use Rattle.sketch_base.specs.declared.error.ErrorKind.{ErrorKind}
+use Rattle.sketch_base.specs.declared.error.ErrorKind.TheVariants.{OutOfMemory}
 use Rattle.core_compact.specs.CompactState.{Compact}
+use Rattle.core_images.specs.Read.{IsRefused}
+use Rattle.keys_sketches.specs.Sources.{GivesNext}
+use Rattle.distinct_inputs.specs.AnySeed.{IsOfSomeSeed, IsOfNoSeed}
 use Rattle.distinct_arguments.specs.Settings.{OptionValues}
 use Rattle.distinct_messages.specs.Failures.{display_name, is_fault, IsOfOne, UnreadableIf}
 use Rattle.distinct_messages.specs.declared.failure.Failure.{Failure}
+use Rattle.distinct_messages.specs.declared.failure.Failure.TheVariants.{Memory}
 use Rattle.distinct_inputs.specs.Failures.{NotesNext}
 use Rattle.distinct_commands.specs.Texts.{shown_text}
-use Rattle.distinct_commands.specs.Showing.{AreShownByName, AreShown, AreOfOne, ShowsFirst, PassesFirst, SeesNext, IfPassed, IsAppended, NamesFile}
+use Rattle.distinct_commands.specs.Showing.{AreShownByName, AreShown, AreOfOne, ShowsFirst, PassesFirst, PassesNext, SeesNext, IfPassed, IsAppended, NamesFile}
 use Rattle.distinct_commands.specs.declared.show.Seen.{Seen}
 use Rattle.distinct_commands.specs.declared.show.Seen.TheVariants.{Sketch, Passed}
 
@@ -198,3 +204,22 @@ none_seen (Some s) none = absurd (none s refl)
 pub next_named : {A : Type 0} (current : List ℕ) (left : List (String A)) (new_current : List ℕ) (new_left : List (String A)) (file : String A) (others : List (String A)) →
     NotesNext current left new_current new_left → left ≡ file ∷ others → (new_current ≡ string_bytes file) × (new_left ≡ others)
 next_named current left new_current new_left file others noted parted = subst (λ l. NotesNext current l new_current new_left) parted noted
+
+some_is : {X : Type 0} (x y : X) → Some x ≡ Some y → x ≡ y
+some_is x y is = cc
+
+-- the next image was the first that was left, and is of no seed
+pub passes_first : {V : Type 0} (items : V → List ℕ) (old new : Option (List (List ℕ))) (o : Option V) (v : V) (e : ErrorKind) (f : Failure) → GivesNext (λ w. Some (items w)) old new o → o ≡ Some v →
+    IsRefused e (IsOfSomeSeed (items v)) → (e ≡ OutOfMemory → f ≡ Memory) → PassesNext old new f
+passes_first items None new o v e f gives is refused memory = tt
+passes_first items (Some images) new o v e f gives is (inl out) memory = λ fault. let wrong : is_fault Memory ≡ true = subst (λ g. is_fault g ≡ true) (memory out) fault in absurd (cc)
+passes_first items (Some images) new o v e f gives is (inr none) memory = λ fault.
+    let first = subst (GivesNext (λ w. Some (items w)) (Some images) new) is gives in
+    let same : items v ≡ first.text = some_is (items v) first.text first.has in
+    record {
+      image = first.text;
+      images_after = first.texts_left;
+      parted = first.parted;
+      is_none = subst IsOfNoSeed same none.1;
+      leaves = first.leaves;
+    }

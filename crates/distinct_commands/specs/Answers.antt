@@ -1,5 +1,5 @@
 -- What a command writes, by the texts of its files.
-use Rattle.std.specs.Prelude.{ℕ, ◌≡◌, Bool, true, false, List, [], ◌∷◌, length, Option, Some, None, IfSome}
+use Rattle.std.specs.Prelude.{ℕ, ◌≡◌, ◌++◌, codes, Bool, true, false, List, [], ◌∷◌, length, Option, Some, None, IfSome}
 use Rattle.std.specs.Io.KnownBytes.{Appends}
 use Rattle.core_compact.specs.CompactState.{Compact}
 use Rattle.theta_sketches.specs.Image.{written}
@@ -22,15 +22,17 @@ use Rattle.distinct_commands.specs.Groups.{IsGroupedText, IsUnitedListing}
 use Rattle.distinct_commands.specs.declared.groups.Listing.{Listing}
 use Rattle.distinct_commands.specs.declared.groups.Listing.TheVariants.{Counts, Images, Shown}
 use Rattle.keys_lines.specs.declared.key.Key.{Key}
-use Rattle.distinct_commands.specs.Texts.{count_text}
+use Rattle.distinct_commands.specs.Texts.{count_text, file_count_text, head_of}
+use Rattle.distinct_messages.specs.Failures.{display_name}
 use Rattle.distinct_commands.specs.Showing.{IsShownOf}
 use Rattle.distinct_commands.specs.Sums.{IsSumsText, IsTotalText}
 use Rattle.distinct_commands.specs.Visits.{IsVisitsText}
 use Rattle.distinct_commands.specs.Similarity.{IsComparedOf}
+use Rattle.distinct_commands.specs.Matrix.{IsMatrixOf}
 use Rattle.distinct_messages.specs.declared.failure.Failure.{Failure}
 use Rattle.distinct_arguments.specs.declared.commands.Command.{Command}
 use Rattle.distinct_arguments.specs.declared.commands.Command.TheVariants.{Count, Sketch, Combine, Show, Eval}
-use Rattle.distinct_arguments.specs.declared.commands.Command.TheVariants.{Visits, Sum, Similarity}
+use Rattle.distinct_arguments.specs.declared.commands.Command.TheVariants.{Visits, Sum, Similarity, Matrix}
 use Rattle.distinct_arguments.specs.declared.commands.Operator.{Operator}
 use Rattle.distinct_arguments.specs.declared.commands.Operator.TheVariants.{Union, Meet, Minus}
 
@@ -75,10 +77,25 @@ abbrev pub IsCountOf : (by : Option Key) → OptionValues → (seed : ℕ) → (
 IsCountOf None options seed texts out = out ≡ count_text options (sketch_of options seed texts)
 IsCountOf (Some by) options seed texts out = IsGroupedText Counts options seed by texts out
 
--- what `count` prints of texts: of their lines, or of the groups of images in them
-abbrev pub IsCountText : (of_groups : Bool) → OptionValues → (seed : ℕ) → (texts : List (List ℕ)) → List ℕ → Type 0
-IsCountText false options seed texts out = IsCountOf (chosen_group options) options seed texts out
-IsCountText true options seed texts out = IsUnitedListing Counts options seed texts out
+-- what `count` prints of the file of a name that has this text, counted by itself
+abbrev pub file_text : OptionValues → (seed : ℕ) → (name text : List ℕ) → List ℕ
+file_text options seed name text = file_count_text options (display_name name) (sketch_of options seed (text ∷ []))
+
+-- .. of the files of these names, one after another; a text behind them has the last name, which is this one before the first
+unfoldable pub files_text : OptionValues → (seed : ℕ) → (last : List ℕ) → (names texts : List (List ℕ)) → List ℕ
+files_text options seed last names [] = []
+files_text options seed last [] (text ∷ texts) = file_text options seed last text ++ files_text options seed last [] texts
+files_text options seed last (name ∷ names) (text ∷ texts) = file_text options seed name text ++ files_text options seed name names texts
+
+-- what `count` prints of the lines of files of these names, of each by itself or of all; with no name, of standard input
+abbrev pub IsLinesCount : (per_file : Bool) → OptionValues → (seed : ℕ) → (names texts : List (List ℕ)) → List ℕ → Type 0
+IsLinesCount false options seed names texts out = IsCountOf (chosen_group options) options seed texts out
+IsLinesCount true options seed names texts out = out ≡ head_of options.form ++ files_text options seed (codes "-") names texts
+
+-- what `count` prints of files: of their lines, or of the groups of images in them
+abbrev pub IsCountText : (of_groups : Bool) → OptionValues → (seed : ℕ) → (names texts : List (List ℕ)) → List ℕ → Type 0
+IsCountText false options seed names texts out = IsLinesCount options.per_file options seed names texts out
+IsCountText true options seed names texts out = IsUnitedListing Counts options seed texts out
 
 -- what `sketch` writes of texts, by the key of their groups if there is one
 abbrev pub IsSketchOf : (by : Option Key) → OptionValues → (seed : ℕ) → (texts : List (List ℕ)) → List ℕ → Type 0
@@ -119,7 +136,7 @@ IsCombinedText true operator options seed texts out = IsCombinedGroups operator 
 
 -- what a command other than `show` writes for files of these names and texts; the only name of `eval` is its expression
 abbrev pub IsWholeAnswer : Command → OptionValues → (seed : ℕ) → (names texts : List (List ℕ)) → List ℕ → Type 0
-IsWholeAnswer Count options seed names texts out = IsCountText options.groups options seed texts out
+IsWholeAnswer Count options seed names texts out = IsCountText options.groups options seed names texts out
 IsWholeAnswer Sketch options seed names texts out = IsSketchText (chosen_amount options) (chosen_group options) options seed texts out
 IsWholeAnswer (Combine operator) options seed names texts out = IsCombinedText options.groups operator options seed texts out
 IsWholeAnswer Show options seed names texts out = ⊥
@@ -127,6 +144,7 @@ IsWholeAnswer Eval options seed names texts out = IsEvaluatedOf options seed nam
 IsWholeAnswer Visits options seed names texts out = IsVisitsText options.sums options seed texts out
 IsWholeAnswer Sum options seed names texts out = IsTotalText (chosen_value options) options seed texts out
 IsWholeAnswer Similarity options seed names texts out = IsComparedOf options seed texts out
+IsWholeAnswer Matrix options seed names texts out = IsMatrixOf options seed names texts out
 
 -- what `show` prints of texts: of the images in them, or of the groups of images, of which it passes over nothing
 abbrev pub IsShowText : (of_groups : Bool) → OptionValues → (seed : ℕ) → (names texts : List (List ℕ)) → List ℕ → (passed : List Failure) → Type 0

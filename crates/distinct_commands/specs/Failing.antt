@@ -1,5 +1,5 @@
 -- When a command fails.
-use Rattle.std.specs.Prelude.{ℕ, ◌≡◌, ◌≢◌, ◌⊎◌, ⊤, Bool, true, false, List, [], ◌∷◌, length, Option, Some, IfSome}
+use Rattle.std.specs.Prelude.{ℕ, ◌≡◌, ◌≢◌, ◌<◌, ◌⊎◌, ⊤, Bool, true, false, List, [], ◌∷◌, length, Option, Some, IfSome}
 use Rattle.std.specs.Prelude.{codes, string_bytes}
 use Rattle.std.specs.Option.{option_map}
 use Rattle.core_compact.specs.CompactState.{Compact}
@@ -14,7 +14,7 @@ use Rattle.distinct_arguments.specs.Arguments.{Action, prints, runs, fails}
 use Rattle.distinct_arguments.specs.Settings.{OptionValues}
 use Rattle.distinct_arguments.specs.declared.commands.Command.{Command}
 use Rattle.distinct_arguments.specs.declared.commands.Command.TheVariants.{Count, Sketch, Combine, Show, Eval}
-use Rattle.distinct_arguments.specs.declared.commands.Command.TheVariants.{Visits, Sum, Similarity}
+use Rattle.distinct_arguments.specs.declared.commands.Command.TheVariants.{Visits, Sum, Similarity, Matrix}
 use Rattle.distinct_arguments.specs.declared.commands.Operator.{Operator}
 use Rattle.distinct_arguments.specs.declared.commands.Operator.TheVariants.{Union, Meet, Minus}
 use Rattle.distinct_arguments.specs.declared.fault.Fault.TheVariants.{NotOneExpression}
@@ -140,8 +140,19 @@ abbrev pub IsOfPair : OptionValues → (seed count : ℕ) → (texts : Option (L
 IsOfPair options seed count texts failure =
     IsOfImages false options.hex seed (images_in false options texts) failure ⊎ ((failure ≡ NotTwo) × AreNotTwo options.hex count texts)
 
+-- there are fewer than two images: each file is one, and this count of them is less, or the images in the texts are fewer, if these
+-- are known
+abbrev pub AreFew : (hex : Bool) → (count : ℕ) → (texts : Option (List (List ℕ))) → Type 0
+AreFew hex count texts = ((hex ≡ false) × (count < 2)) ⊎ IfSome texts (λ all. length (images_of false hex all) < 2)
+
+-- `matrix` fails: memory, a file or its contents is at fault, or there are fewer than two images
+abbrev pub IsOfPairs : OptionValues → (seed count : ℕ) → (texts : Option (List (List ℕ))) → Failure → Type 0
+IsOfPairs options seed count texts failure =
+    IsOfImages false options.hex seed (images_in false options texts) failure ⊎ ((failure ≡ NotTwo) × AreFew options.hex count texts)
+
 -- a command on files of these names fails before it writes: what it reads is at fault, or memory was refused; and by command, no image
--- is named, there are not as many as are expected, `minus` or `similarity` doesn't have two, or `sum` doesn't have the field of its numbers
+-- is named, there are not as many as are expected, `minus` or `similarity` doesn't have two, `matrix` has fewer, or `sum` doesn't have the
+-- field of its numbers
 abbrev pub IsOfCommand : Command → OptionValues → (seed count : ℕ) → (texts : Option (List (List ℕ))) → Failure → Type 0
 IsOfCommand Count options seed count texts failure = IsOfCount options.groups seed count texts failure
 IsOfCommand Sketch options seed count texts failure = IsOfSketch options seed texts failure
@@ -152,6 +163,7 @@ IsOfCommand Eval options seed count texts failure = ⊥
 IsOfCommand Visits options seed count texts failure = OrNoFiles ((count ≡ 0) × (options.sums ≡ true)) (IsOfVisits options seed texts) failure
 IsOfCommand Sum options seed count texts failure = IsOfTotal options seed texts failure
 IsOfCommand Similarity options seed count texts failure = IsOfPair options seed count texts failure
+IsOfCommand Matrix options seed count texts failure = IsOfPairs options seed count texts failure
 
 -- .. or `eval` fails on an expression
 abbrev pub IsOfOperands : Command → OptionValues → (seed : ℕ) → Operands → (texts : Option (List (List ℕ))) → Failure → Type 0

@@ -7,6 +7,7 @@ pub mod Sums
 pub mod Ranked
 pub mod Groups
 pub mod Similarity
+pub mod Matrix
 pub mod Answers
 pub mod Operands
 pub mod Failing

@@ -5,6 +5,7 @@ use Rattle.core_laws.specs.Entries.{hash_key, first_hash}
 use Rattle.core_laws.specs.Maps.{below}
 use Rattle.core_laws.specs.Operators.{common, lacking}
 use Rattle.core_laws.specs.Samples.{AreSamples}
+use Rattle.keys_reports.specs.Reports.{report_of}
 use Rattle.keys_sketches.specs.Shards.{values_of_sketches, AreRead}
 use Rattle.similarities.specs.Forms.{similarity_line, similarity_json_line, similarity_tsv_head, similarity_tsv_row}
 use Rattle.similarities.specs.Similarities.{similarity_of}
@@ -18,6 +19,8 @@ use Rattle.distinct_arguments.specs.declared.options.Form.TheVariants.{Plain, Ts
 use Rattle.distinct_inputs.specs.Images.{images_of}
 use Rattle.keys_joins.specs.Joins.{intersection_of, difference_of}
 use Rattle.distinct_commands.specs.Texts.{chosen_deviations}
+use Rattle.distinct_commands.specs.declared.similarity.Counted.{Counted}
+use Rattle.distinct_commands.specs.declared.similarity.Comparison.{Comparison}
 
 -- how many of two sketches aren't empty
 abbrev pub nonempty_of : (first_empty second_empty : Bool) → Nonempty
@@ -34,6 +37,19 @@ overlap_of seed first second = record {
   first = length (difference_of seed first second).entries;
   second = length (difference_of seed second first).entries;
   theta = min first.theta second.theta;
+}
+
+-- what is counted of a sketch: its retained hashes, and its estimate, as `count` prints it
+abbrev pub counted_of : Compact ℕ → Counted
+counted_of s = record { retained = length s.entries; estimate = (report_of 2 s).estimate }
+
+-- what two sketches have in common, and each alone: the estimates are those of their intersection and of both differences
+abbrev pub comparison_of : (seed : ℕ) → (first second : Compact ℕ) → Comparison
+comparison_of seed first second = record {
+  overlap = overlap_of seed first second;
+  both = (counted_of (intersection_of seed (first ∷ second ∷ []))).estimate;
+  first = (counted_of (difference_of seed first second)).estimate;
+  second = (counted_of (difference_of seed second first)).estimate;
 }
 
 -- an overlap has, of the hashes of two sets that are below its theta, how many both have, and how many each has alone

@@ -11,7 +11,7 @@ ghost use Rattle.distinct_arguments.specs.declared.commands.Operator.{Operator};
 ghost use Rattle.distinct_commands.specs.Answers.{IsCombinedOf, IsExpected, IsUnionOf};
 ghost use Rattle.keys_joins.specs.Joins.{intersection_of, difference_of};
 ghost use Rattle.distinct_inputs.specs.Images.{remaining_images, HasNoSketch, ReadsNext};
-ghost use Rattle.distinct_inputs.specs.Failures.{chosen_summary, images_in, unites_sums, AreCounted, IsOfImages, IsOfCombining};
+ghost use Rattle.distinct_inputs.specs.Failures.{chosen_summary, images_in, unites_sums, AreCounted, IsOfImages, IsOfCombining, NotesNextFile};
 ghost use Rattle.distinct_inputs.specs.Failures.{IsOfEitherUnion, IsOfUniting};
 ghost use Rattle.distinct_messages.specs.Failures.{UnreadableIf};
 ghost use Rattle.distinct_inputs.specs.Failures.{ReportsNoSketch, ReportsPastUnion};
@@ -69,6 +69,7 @@ pub fn next_sketch<S: Sources>(
     ensures reads { IfOk result (ReadsNext seed
         (remaining_images S.Source.remaining S.texts images.old)
         (remaining_images S.Source.remaining S.texts images.new)) }
+    ensures advances { NotesNextFile images.old images.new }
     ensures failed { IfErr result (IsOfImages false hex seed (remaining_images S.Source.remaining S.texts images.old)) }
     ensures fallible { IfErr result (UnreadableIf S.may_fail) }
 {

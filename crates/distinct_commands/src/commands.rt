@@ -1,12 +1,12 @@
 //! What each command writes, over any sources and any writer.
-ghost use Rattle.std.specs.Prelude.{◌≡◌, ◌≢◌, ℕ, [], OnOk, IfOk, IfErr, IfSome, length};
+ghost use Rattle.std.specs.Prelude.{◌≡◌, ◌≢◌, ℕ, [], OnOk, IfOk, IfErr, IfSome, codes, length};
 ghost use Rattle.distinct_arguments.specs.declared.commands.Command.TheVariants.{Eval, Show};
 ghost use Rattle.sketch_base.specs.Seed.{seed_hash};
 ghost use Rattle.theta_sketches.specs.Image.{written};
 ghost use Rattle.distinct_arguments.specs.Faults.{options_of, request_action};
 ghost use Rattle.distinct_arguments.specs.Settings.{chosen_group};
 ghost use Rattle.distinct_commands.specs.Answers.{sketch_of, lines_text, listing_of, IsCountText, IsLinesText, IsSketchText};
-ghost use Rattle.distinct_commands.specs.Answers.{IsCommandAnswer, IsShowText, IsWholeAnswer, WritesAnswer, Performs};
+ghost use Rattle.distinct_commands.specs.Answers.{IsCommandAnswer, IsLinesCount, IsShowText, IsWholeAnswer, WritesAnswer, Performs};
 ghost use Rattle.distinct_commands.specs.Showing.{AreOfOne};
 ghost use Rattle.distinct_inputs.specs.Lists.{names_of};
 ghost use Rattle.distinct_inputs.specs.Images.{in_form};
@@ -49,7 +49,7 @@ const STANDARD_OUTPUT: &str = "standard output";
 /// - `WrongCount`: commands that combine images, if `--expect` names another number than the failure reports to have
 ///   been found, which is, if contracts know the files' bytes, the number of the images;
 /// - `NotTwo`: `minus` and `similarity`. If contracts know the files' bytes, only if the named files aren't two
-///   (without `--hex`) or their images aren't two;
+///   (without `--hex`) or their images aren't two. And `matrix`, if they are fewer than two;
 /// - `NotOneEach`: `eval`;
 /// - `PastResult`: `eval --sums`. If contracts know the files' bytes, only if sums are added and in some step of the
 ///   expression two operands of a union or an intersection have a key whose sums are 2^64 or more together;
@@ -217,6 +217,7 @@ impl<'a, S: Sources + Drop> Job<'a, S> {
         requires seeded { seed_hash self.seed ≢ 0 }
         requires other { command ≢ Eval }
         requires named { self.inputs.left.now ≡ files.now }
+        requires unnamed { self.inputs.current.now ≡ codes "-" }
         ensures answer { IfSome (S.texts self.entry.inputs.sources) (λ texts. IfOk result (λ a.
             IsCommandAnswer command (options_of self.entry.options.now) self.entry.seed (names_of files.now) texts
             a.bytes.items a.passed.items)) }
@@ -274,6 +275,8 @@ impl<'a, S: Sources + Drop> Job<'a, S> {
         requires seeded { seed_hash self.seed ≢ 0 }
         requires other { command ≢ Eval }
         requires whole { command ≢ Show }
+        requires named { self.inputs.left.now ≡ files.now }
+        requires unnamed { self.inputs.current.now ≡ codes "-" }
         ensures answer { IfSome (S.texts self.entry.inputs.sources) (λ texts. IfOk result (λ v.
             IsWholeAnswer command (options_of self.entry.options.now) self.entry.seed (names_of files.now) texts v.items)) }
         ensures failed { IfErr result (
@@ -305,27 +308,50 @@ impl<'a, S: Sources + Drop> Job<'a, S> {
             }
             Command::Sum => self.sum_inputs(),
             Command::Similarity => self.compare_inputs(files.len()),
+            Command::Matrix => self.compare_each(files),
         }
     }
 
-    /// What `count` prints of the files of these names: of their lines, or of the groups of images in them.
+    /// What `count` prints of the files of these names, which are those of the sources: of their lines, of all or of
+    /// each file by itself, or of the groups of images in them.
     fn count_inputs<C: Console>(self, files: &[String], console: &mut C) -> Result<Vec<u8>, Failure>
         requires seeded { seed_hash self.seed ≢ 0 }
+        requires named { self.inputs.left.now ≡ files.now }
+        requires unnamed { self.inputs.current.now ≡ codes "-" }
         ensures printed { IfSome (S.texts self.entry.inputs.sources) (λ texts.
             IfOk result (λ v.
-            IsCountText self.entry.options.now.groups (options_of self.entry.options.now) self.entry.seed texts v.items)) }
+            IsCountText self.entry.options.now.groups (options_of self.entry.options.now) self.entry.seed
+            (names_of files.now) texts v.items)) }
         ensures failed { IfErr result (
             IsOfCount self.entry.options.now.groups self.entry.seed (length files.now)
             (S.texts self.entry.inputs.sources)) }
         ensures fallible { IfErr result (UnreadableIf S.may_fail) }
     {
         if !self.options.groups {
-            return self.print_lines(false, console);
+            return self.count_lines(console);
         }
         if files.is_empty() {
             return Err(Failure::NoFiles);
         }
         self.list_unions(Listing::Counts, console)
+    }
+
+    /// What `count` prints of the lines of the sources: of all, or of each by itself.
+    fn count_lines<C: Console>(self, console: &mut C) -> Result<Vec<u8>, Failure>
+        requires seeded { seed_hash self.seed ≢ 0 }
+        requires unnamed { self.inputs.current.now ≡ codes "-" }
+        ensures printed { IfSome (S.texts self.entry.inputs.sources) (λ texts.
+            IfOk result (λ v.
+            IsLinesCount self.entry.options.now.per_file (options_of self.entry.options.now) self.entry.seed
+            (names_of self.entry.inputs.left.now) texts v.items)) }
+        ensures failed { IfErr result IsOfReading }
+        ensures fallible { IfErr result (UnreadableIf S.may_fail) }
+    {
+        if self.options.per_file {
+            self.count_each(console)
+        } else {
+            self.print_lines(false, console)
+        }
     }
 
     /// What `count` prints, or `sketch` writes, of the lines of all sources in turn, by groups if the options say so.

@@ -16,7 +16,7 @@ ghost use Rattle.distinct_commands.specs.Failing.{IsOfNames, IsOfThetas, IsOfEva
 ghost use Rattle.distinct_commands.specs.Operands.{IsRead};
 ghost use Rattle.distinct_inputs.specs.Seeds.{AreSeeded};
 ghost use Rattle.distinct_messages.specs.Failures.{UnreadableIf};
-ghost use Rattle.distinct_inputs.specs.Failures.{IsOfReading};
+ghost use Rattle.distinct_inputs.specs.Failures.{IsOfReading, NotesNext};
 ghost use Rattle.distinct_messages.specs.declared.failure.Failure.TheVariants as failure;
 
 use crate::combine::all_sketches;
@@ -58,7 +58,7 @@ fn sketch_source<R: TextReader, C: Console>(
 
 /// The sketch of the lines of the next source, of this seed, or `None` at the end. It fails if memory is refused or
 /// the source can't be read.
-fn next_lines<S: Sources, C: Console>(
+pub fn next_lines<S: Sources, C: Console>(
     alloc: Global,
     options: &Options<'_>,
     seed: u64,
@@ -69,6 +69,7 @@ fn next_lines<S: Sources, C: Console>(
     ensures seeded { IfOk result (λ next. IfSome next (λ s. s.seed_hash ≡ seed_hash seed)) }
     ensures sketches { IfOk result
         (SketchesNext (options_of options.now) seed (S.texts inputs.old.sources) (S.texts inputs.new.sources)) }
+    ensures named { NotesNext inputs.old.current.now inputs.old.left.now inputs.new.current.now inputs.new.left.now }
     ensures failed { IfErr result IsOfReading }
     ensures fallible { IfErr result (UnreadableIf S.may_fail) }
 {

@@ -19,6 +19,8 @@ mod eval_sums;
 mod expression;
 mod groups;
 mod job;
+mod matrix;
+mod per_file;
 mod ranked;
 mod show;
 mod similarity;

@@ -10,7 +10,8 @@ ghost use Rattle.distinct_messages.specs.Failures.{display_name, is_fault, IsOfO
 ghost use Rattle.distinct_inputs.specs.Failures.{IsOfImages, NotesNextFile};
 ghost use Rattle.distinct_messages.specs.declared.failure.Failure.TheVariants as failure;
 ghost use Rattle.distinct_inputs.specs.Images.{remaining_images};
-ghost use Rattle.distinct_commands.specs.Texts.{chosen_deviations, count_text, counted_line, shown_text, head_of};
+ghost use Rattle.distinct_commands.specs.Texts.{chosen_deviations, count_text, counted_line, file_count_text, named_counted_line};
+ghost use Rattle.distinct_commands.specs.Texts.{shown_text, head_of};
 
 use crate::combine::image_failure;
 use crate::job::{Answer, Job};
@@ -19,7 +20,8 @@ use distinct_inputs::{Images, read_any_seed};
 use distinct_messages::{Console, Failure, Remark, display_name};
 use estimates::Deviations;
 use keys_reports::{
-    Report, count_line, human_line, json_line, report_of, shown_line, tsv_head, tsv_row,
+    Report, count_line, human_line, json_line, named_count_line, named_human_line, report_of,
+    shown_line, tsv_head, tsv_row,
 };
 use keys_sketches::Sources;
 use std::alloc::{AllocError, Global};
@@ -65,6 +67,39 @@ pub fn count_text(
             Ok(text)
         }
         Form::Json => json_line(alloc, None, report),
+    }
+}
+
+/// The line of a count with a name behind it: for people with `--human`, else its numbers, with bounds if they are chosen.
+fn named_counted_line(
+    alloc: Global,
+    options: &Options<'_>,
+    name: &str,
+    report: Report,
+) -> Result<String, AllocError>
+    ensures { IfOk result (λ text. string_bytes text ≡ named_counted_line (options_of options.now) name.now report) }
+{
+    if options.human {
+        named_human_line(alloc, name, report)
+    } else {
+        named_count_line(alloc, name, report, options.bounds.is_some())
+    }
+}
+
+/// What `count --per-file` prints of the sketch of a file of this name.
+pub fn file_count_text(
+    alloc: Global,
+    options: &Options<'_>,
+    name: &str,
+    sketch: &CompactThetaSketch,
+) -> Result<String, AllocError>
+    ensures { IfOk result (λ text. string_bytes text ≡ file_count_text (options_of options.now) name.now sketch.now) }
+{
+    let report = report_of(sketch, chosen_deviations(options));
+    match options.form {
+        Form::Plain => named_counted_line(alloc, options, name, report),
+        Form::Tsv => tsv_row(alloc, Some(name.as_bytes()), report),
+        Form::Json => json_line(alloc, Some(name), report),
     }
 }
 

@@ -3,7 +3,7 @@
 ghost use Rattle.std.specs.Prelude.{◌≡◌, ◌≢◌, ℕ, List, Option, IfOk, IfErr, IfSome, string_bytes, Bool};
 ghost use Rattle.sketch_base.specs.Seed.{seed_hash};
 ghost use Rattle.keys_lines.specs.Lines.{lines_of_all};
-ghost use Rattle.keys_sums.specs.Amounts.{AreNumbers, value_field};
+ghost use Rattle.keys_sums.specs.Amounts.{AreNumbers};
 ghost use Rattle.keys_sums.specs.Parts.{bytes_of};
 ghost use Rattle.keys_sums.specs.declared.addends.Amount.{Amount};
 ghost use Rattle.keys_sums.specs.Images.{written_sums, ReadsSums};
@@ -12,7 +12,7 @@ ghost use Rattle.distinct_messages.specs.declared.failure.Failure.TheVariants as
 ghost use Rattle.distinct_arguments.specs.Faults.{options_of};
 ghost use Rattle.distinct_arguments.specs.Settings.{OptionValues, chosen_value};
 ghost use Rattle.distinct_inputs.specs.Failures.{chosen_amount, chosen_summary, HasGreatSum, HasNoNumberIn};
-ghost use Rattle.distinct_inputs.specs.Failures.{IsOfSums, IsOfTotal};
+ghost use Rattle.distinct_inputs.specs.Failures.{IsOfSums, IsOfTotal, shown_field};
 ghost use Rattle.distinct_messages.specs.Failures.{UnreadableIf};
 ghost use Rattle.totals.specs.Totals.{lines_total};
 ghost use Rattle.tuple_sketches.specs.declared.numbers.SummaryMode.{SummaryMode};
@@ -71,11 +71,15 @@ fn overflow_failure<S: Sources>(alloc: Global, inputs: &Inputs<'_, S>, line: u64
     }
 }
 
-/// The number, from 1, of the field that lines add; 0 if they add none.
-fn value_field(amount: Amount) -> u64
-    ensures { result ≡ value_field amount }
+/// The byte between the parts of a line that texts choose.
+const PARTS: u8 = 30;
+
+/// The number, from 1, of the field that lines add; 0 if they add none, or a text chooses it.
+fn shown_field(amount: Amount) -> u64
+    ensures { result ≡ shown_field amount }
 {
     match amount {
+        Amount::Number(Key::Field(_, PARTS)) => 0,
         Amount::Number(Key::Field(before, _)) => before as u64 + 1,
         _ => 0,
     }
@@ -101,7 +105,7 @@ fn number_failure<S: Sources>(
     };
     let mut value = Vec::new(alloc);
     match value.extend_from_slice(start.as_bytes()) {
-        Ok(()) => Failure::NotANumber(name, line, value_field(amount), value),
+        Ok(()) => Failure::NotANumber(name, line, shown_field(amount), value),
         Err(_) => Failure::Memory,
     }
 }

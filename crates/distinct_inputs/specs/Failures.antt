@@ -1,5 +1,5 @@
 -- When each failure occurs.
-use Rattle.std.specs.Prelude.{ℕ, ◌≡◌, ◌≢◌, ◌⊎◌, ◌==◌, ◌&&◌, ⊤, Bool, true, false, List, [], ◌∷◌, length, Option}
+use Rattle.std.specs.Prelude.{ℕ, ◌≡◌, ◌≢◌, ◌⊎◌, ◌+◌, ◌==◌, ◌&&◌, ⊤, Bool, true, false, List, [], ◌∷◌, length, Option}
 use Rattle.std.specs.Prelude.{Some, None, IfSome, is_none, unwrap_or, String, string_bytes, if◌then◌else◌}
 use Rattle.std.specs.Option.{option_map}
 use Rattle.sketch_base.specs.declared.error.ErrorKind.TheVariants.{OutOfMemory, InvalidData, Policy}
@@ -14,7 +14,8 @@ use Rattle.keys_sketches.specs.declared.sketching.ReadError.{ReadError}
 use Rattle.keys_sketches.specs.declared.sketching.ReadError.TheVariants.{Refused, Failed}
 use Rattle.tuple_sketches.specs.declared.numbers.SummaryMode.{SummaryMode}
 use Rattle.tuple_sketches.specs.declared.numbers.SummaryMode.TheVariants.{Sum, Min, Max}
-use Rattle.keys_sums.specs.Amounts.{added_by, value_field}
+use Rattle.keys_sums.specs.Amounts.{added_by}
+use Rattle.keys_lines.specs.declared.key.Key.TheVariants.{Line, Field}
 use Rattle.keys_sums.specs.Refusals.{HasNoNumberAt, IsPast}
 use Rattle.keys_sums.specs.declared.addends.Amount.{Amount}
 use Rattle.keys_sums.specs.declared.addends.Amount.TheVariants.{One, Number}
@@ -140,11 +141,16 @@ IsOfGroups seed texts failure = IsOfReading failure
 abbrev pub HasNoNumberIn : Amount → (line : ℕ) → (start : List ℕ) → (texts : Option (List (List ℕ))) → Type 0
 HasNoNumberIn amount line start texts = IfSome texts (HasFault (λ text. HasNoNumberAt amount line start (lines_of text)))
 
+-- the number of the field that lines add, the first being 1; 0 if it has none: texts choose it (30 is between the parts then)
+abbrev pub shown_field : Amount → ℕ
+shown_field (Number (Field before separator)) = if separator == 30 then 0 else before + 1
+shown_field amount = 0
+
 -- lines are not summed: memory was refused, a file can't be read, a sum is 2^64 or more, or a line has no number to add
 abbrev pub IsOfSums : SummaryMode → OptionValues → (seed : ℕ) → Amount → (texts : Option (List (List ℕ))) → Failure → Type 0
 IsOfSums mode options seed amount texts (PastGreatest name line) = HasGreatSum mode options seed amount texts
 IsOfSums mode options seed amount texts (NotANumber name line field start) =
-    (amount ≢ One) × (field ≡ value_field amount) × HasNoNumberIn amount line start.items texts
+    (amount ≢ One) × (field ≡ shown_field amount) × HasNoNumberIn amount line start.items texts
 IsOfSums mode options seed amount texts failure = IsOfReading failure
 
 -- lines are not sketched, or not summed if they add something

@@ -168,6 +168,14 @@ impl<'a, S: Sources> Images<'a, S> {
         self.inputs.name()
     }
 
+    /// The number, from 1, of the line that was read last in the file that was opened last; 0 if none was, as of a file
+    /// that is one image.
+    pub fn line(&self) -> u64
+        ensures { result ≡ self.now.line }
+    {
+        self.line
+    }
+
     /// The failure if the file can't be read.
     pub fn read_failure(&self, error: io::Error) -> Failure
         ensures read { ReportsUnreadable (display_name self.now.inputs.current.now) error result }

@@ -1,14 +1,16 @@
 //! The files that the program reads.
-ghost use Rattle.std.specs.Prelude.{◌≡◌, Bool, true, false, None, Some, IfOk, IfErr, IfSome, OnOk};
+ghost use Rattle.std.specs.Prelude.{◌≡◌, ◌≤◌, length, Bool, true, false, None, Some, IfOk, IfErr, IfSome, OnOk, codes};
 ghost use Rattle.std.specs.Io.{ReadsAtMost};
 ghost use Rattle.keys_sketches.specs.Sources.{GivesNext};
 ghost use Rattle.distinct_inputs.specs.Failures.{IsOfList, IsOfReading, NotesNext, ReportsUnreadable};
 ghost use Rattle.distinct_messages.specs.Failures.{display_name, UnreadableIf};
 ghost use Rattle.distinct_inputs.specs.Lists.{are_lines, names_in, names_of};
 
+use crate::choices::Choice;
 use crate::lists::{ListError, names_in};
 use distinct_arguments::Share;
 use distinct_messages::{Failure, NoLines, Remark, display_name, nature_of};
+use keys_fields::Fields;
 use keys_parts::{Part, Places};
 use keys_records::{Form, Records};
 use keys_sketches::{Sources, TextReader};
@@ -59,21 +61,82 @@ impl Warning<'_> {
     }
 }
 
-/// A file, or standard input. If it is read as lines, its first bytes are looked at once.
+/// The size of the block that is read first.
+const FRONT: usize = 4096;
+
+/// The byte order mark of UTF-8, which some programs write in front of a text.
+const MARK: [u8; 3] = [0xef, 0xbb, 0xbf];
+
+/// A file, or standard input. Its first bytes are read at once, and looked at.
 #[derive(Drop)]
 pub struct Input<'a> {
     opened: Opened,
     warning: Option<Warning<'a>>,
+    /// Whether a byte order mark at the start is passed over.
+    passes_mark: bool,
+    /// Whether the first bytes are read.
+    is_begun: bool,
+    /// The first bytes: so many were read, and so many of these are given.
+    front: [u8; FRONT],
+    filled: usize,
+    given: usize,
+}
+
+impl<'a> Input<'a> {
+    /// What was opened, of which nothing is read.
+    fn new(opened: Opened, warning: Option<Warning<'a>>, passes_mark: bool) -> Input<'a> {
+        Input {
+            opened,
+            warning,
+            passes_mark,
+            is_begun: false,
+            front: [0; FRONT],
+            filled: 0,
+            given: 0,
+        }
+    }
+
+    /// Reads the first bytes, and looks at them: prints the warning, and passes a byte order mark over. Returns how many
+    /// were read.
+    fn begin(&mut self) -> io::Result<usize> {
+        let length = self.opened.read_once(&mut self.front)?;
+        let warning = self.warning;
+        let bytes = &self.front[..length];
+        let has_mark = self.passes_mark && bytes.starts_with(&MARK);
+        if let Some(warning) = warning {
+            warning.print_of(bytes);
+        }
+        if has_mark {
+            self.given = MARK.len();
+        }
+        self.filled = length;
+        self.is_begun = true;
+        Ok(length)
+    }
+}
+
+/// Gives as many bytes of those behind the first so many as there is room for.
+fn give(bytes: &[u8], given: usize, buf: &mut [u8]) -> usize
+    ensures bound { result ≤ length buf.new }
+{
+    let rest = &bytes[given.min(bytes.len())..];
+    let count = rest.len().min(buf.len());
+    buf[..count].copy_from_slice(&rest[..count]);
+    count
 }
 
 impl Read for Input<'_> {
     fn read(&mut self, buf: &mut [u8]) -> io::Result<usize> {
-        let length = self.opened.read_once(buf)?;
-        if let Some(warning) = self.warning {
-            self.warning = None;
-            warning.print_of(&buf[..length]);
+        if !self.is_begun && self.begin()? == 0 {
+            return Ok(0);
         }
-        Ok(length)
+        if self.given < self.filled {
+            let read = &self.front[..self.filled.min(FRONT)];
+            let count = give(read, self.given, buf);
+            self.given = self.given.saturating_add(count);
+            return Ok(count);
+        }
+        self.opened.read_once(buf)
     }
 }
 
@@ -92,9 +155,28 @@ impl TextReader for Input<'_> {
 /// What a message says of a file that has no parts.
 const NO_PARTS: &str = "is not a regular file, as --part needs: copy it to one, or read it whole";
 
+/// What a message says if records of CSV can't have the separator.
+const NO_SEPARATOR: &str =
+    "its records of CSV can't be separated by a quote or line end: check --separator";
+
+/// What a message says if fields are chosen by names, and a part of a file is read.
+const NO_HEADER: &str =
+    "has its names in the first part alone: with --part choose fields by numbers";
+
+/// How many bytes the byte order mark at the start of a file has; 0 if it has none.
+fn mark_of(file: &mut File) -> io::Result<u64> {
+    let mut front = [0; 3];
+    let length = file.read(&mut front)?;
+    Ok(if front[..length].starts_with(&MARK) {
+        3
+    } else {
+        0
+    })
+}
+
 /// The places of a part in a file, which is then positioned at their start. Only a regular file has parts. A file's length
-/// counts as it is now.
-fn seek_part(file: &mut File, share: Share) -> io::Result<Places> {
+/// counts as it is now, without a byte order mark that is passed over.
+fn seek_part(file: &mut File, share: Share, passes_mark: bool) -> io::Result<Places> {
     let metadata = file.metadata()?;
     if metadata.is_dir() {
         return Err(io::Error::from(ErrorKind::IsADirectory));
@@ -102,8 +184,10 @@ fn seek_part(file: &mut File, share: Share) -> io::Result<Places> {
     if !metadata.is_file() {
         return Err(io::Error::new(ErrorKind::InvalidInput, NO_PARTS));
     }
-    let places = Places::of_part(metadata.len(), share.index, share.parts);
-    file.seek(SeekFrom::Start(places.start()))?;
+    let passed = if passes_mark { mark_of(file)? } else { 0 };
+    let size = metadata.len().saturating_sub(passed);
+    let places = Places::of_part(size, share.index, share.parts);
+    file.seek(SeekFrom::Start(places.start().saturating_add(passed)))?;
     Ok(places)
 }
 
@@ -125,6 +209,7 @@ pub struct Files<'a> {
     is_quiet: bool,
     share: Option<Share>,
     form: Option<Form>,
+    choice: Option<Choice<'a>>,
 }
 
 impl<'a> Files<'a> {
@@ -138,6 +223,7 @@ impl<'a> Files<'a> {
             is_quiet: false,
             share: None,
             form: None,
+            choice: None,
         }
     }
 
@@ -148,9 +234,15 @@ impl<'a> Files<'a> {
     }
 
     /// The same files, whose texts are records of this form, each of them read as a line; or all bytes as they are, if
-    /// it is `None`.
+    /// it is `None`. A byte order mark in front of records is passed over.
     pub fn in_records(self, form: Option<Form>) -> Files<'a> {
         Files { form, ..self }
+    }
+
+    /// The same files, of whose lines the chosen fields are passed on; or all lines as they are, if it is `None`. A byte
+    /// order mark in front of chosen fields is passed over.
+    pub fn choosing(self, choice: Option<Choice<'a>>) -> Files<'a> {
+        Files { choice, ..self }
     }
 
     /// The same files, which this command reads as lines: of one whose first bytes aren't those of lines, a warning is
@@ -179,15 +271,16 @@ impl<'a> Files<'a> {
     fn part_of(&self, name: &'a str) -> io::Result<Part<Input<'a>>> {
         let mut opened = open(self.rt, name)?;
         let warning = self.warning_of(name);
+        let passes_mark = self.form.is_some() || self.choice.is_some();
         let Some(share) = self.share else {
-            return Ok(Part::whole(Input { opened, warning }));
+            return Ok(Part::whole(Input::new(opened, warning, passes_mark)));
         };
         let Opened::File(file) = &mut opened else {
             return Err(io::Error::new(ErrorKind::InvalidInput, NO_PARTS));
         };
-        let places = seek_part(file, share)?;
+        let places = seek_part(file, share, passes_mark)?;
         let warning = if places.start() == 0 { warning } else { None };
-        Ok(Part::new(Input { opened, warning }, places))
+        Ok(Part::new(Input::new(opened, warning, false), places))
     }
 
     /// The next name.
@@ -203,7 +296,7 @@ impl<'a> Files<'a> {
 }
 
 impl<'a> Sources for Files<'a> {
-    type Source = Records<Part<Input<'a>>>;
+    type Source = Fields<Records<Part<Input<'a>>>>;
 
     ghost texts = { λ _. None };
 
@@ -217,7 +310,7 @@ impl<'a> Sources for Files<'a> {
         true
     }
 
-    fn next_source(&mut self) -> io::Result<Option<Records<Part<Input<'a>>>>> {
+    fn next_source(&mut self) -> io::Result<Option<Fields<Records<Part<Input<'a>>>>>> {
         let Some(name) = self.next_name() else {
             return Ok(None);
         };
@@ -227,10 +320,23 @@ impl<'a> Sources for Files<'a> {
                 "distinct: reading from the terminal; press Ctrl-D to finish"
             );
         }
-        Ok(Some(match self.form {
+        if let Some(form) = self.form {
+            if form.separator == b'"' || form.separator == b'\r' || form.separator == b'\n' {
+                return Err(io::Error::new(ErrorKind::InvalidInput, NO_SEPARATOR));
+            }
+        }
+        let records = match self.form {
             Some(form) => Records::new(part, form),
             None => Records::whole(part),
-        }))
+        };
+        let Some(choice) = self.choice else {
+            return Ok(Some(Fields::Whole(records)));
+        };
+        if self.share.is_some() && choice.reads_header() {
+            return Err(io::Error::new(ErrorKind::InvalidInput, NO_HEADER));
+        }
+        let lines = choice.lines_of(self.rt.alloc(), records)?;
+        Ok(Some(Fields::Mapped(lines)))
     }
 }
 
@@ -247,6 +353,7 @@ impl<'a, S: Sources> Inputs<'a, S> {
     pub fn new(sources: S, names: &'a [String]) -> Inputs<'a, S>
         ensures sources { result.sources ≡ sources }
         ensures names { result.left.now ≡ names.now }
+        ensures unnamed { result.current.now ≡ codes "-" }
     {
         Inputs {
             sources,
@@ -327,10 +434,7 @@ pub(crate) fn open_input<'a>(rt: &HostRuntime, name: &str) -> Result<Input<'a>, 
     ensures failed { IfErr result IsOfReading }
 {
     match open(rt, name) {
-        Ok(opened) => Ok(Input {
-            opened,
-            warning: None,
-        }),
+        Ok(opened) => Ok(Input::new(opened, None, false)),
         Err(error) => Err(read_failure(rt.alloc(), name, true, error)),
     }
 }

@@ -5,6 +5,7 @@
 #![tactic(auto)]
 
 mod any_seed;
+mod choices;
 mod images;
 mod inputs;
 mod lists;
@@ -12,6 +13,7 @@ mod records;
 mod seeds;
 
 pub use any_seed::read_any_seed;
+pub use choices::{Choice, choice_of};
 pub use images::Images;
 pub use inputs::{Files, Input, Inputs, files_in_list, names_from};
 pub use lists::{ListError, names_in, texts_of};

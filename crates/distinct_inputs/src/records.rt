@@ -19,11 +19,13 @@ fn number_of(field: Option<u32>) -> u64
     }
 }
 
-/// The fields of a record that options use: those of their numbers, or all if the whole record is its key.
+/// The fields of a record that options use: those of their numbers, or all if texts choose some, or if the whole record
+/// is its key.
 fn chosen_columns(options: &Options<'_>) -> Columns
     ensures { result ≡ chosen_columns (options_of options.now) }
 {
     match options.field {
+        _ if options.has_texts() => Columns::all(),
         Some(field) => Columns::new(
             field as u64,
             number_of(options.by),
@@ -40,7 +42,7 @@ pub fn record_form(options: &Options<'_>) -> Option<Form>
     if options.csv {
         Some(Form {
             separator: options.separator.unwrap_or(COMMA),
-            header: options.header,
+            header: options.header && !options.has_texts(),
             columns: chosen_columns(options),
         })
     } else {

@@ -480,6 +480,13 @@ impl fmt::Display for Failure {
                 Escaped(text),
                 u64::MAX
             ),
+            Failure::NotANumber(name, line, 0, value) => write!(
+                f,
+                "{}: line {line}: its value \"{}\" is not a whole number up to {}: check --value and --separator",
+                Named(name),
+                Quoted(value.as_slice()),
+                u64::MAX
+            ),
             Failure::NotANumber(name, line, field, value) => write!(
                 f,
                 "{}: line {line}: its value \"{}\" in field {field} is not a whole number up to {}: check --value and --separator",

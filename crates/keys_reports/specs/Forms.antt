@@ -10,6 +10,15 @@ count_line with_bounds r =
     ++ (if with_bounds then codes " " ++ decimal r.interval.lower ++ codes " " ++ decimal r.interval.upper else [])
     ++ codes "\n"
 
+-- the numbers of a count: the estimate, and with bounds the lower and the upper one
+abbrev pub count_numbers : (with_bounds : Bool) → Report → List ℕ
+count_numbers with_bounds r =
+    decimal r.estimate ++ (if with_bounds then codes " " ++ decimal r.interval.lower ++ codes " " ++ decimal r.interval.upper else [])
+
+-- the line of a count with a name behind it
+abbrev pub named_line : (numbers name : List ℕ) → List ℕ
+named_line numbers name = numbers ++ (codes "\t" ++ escaped_name name ++ codes "\n")
+
 -- the estimate and how near it is
 abbrev pub shown_estimate : Report → List ℕ
 shown_estimate r =

@@ -1,7 +1,7 @@
 //! The lines that are written of a report. Each ends in an LF. The only error is `AllocError`.
 ghost use Rattle.std.specs.Prelude.{◌≡◌, ◌++◌, IfOk, OnOk, string_bytes};
 ghost use Rattle.std.specs.Option.{option_map};
-ghost use Rattle.keys_reports.specs.Forms.{count_line, json_fields, json_head, json_line, shown_estimate};
+ghost use Rattle.keys_reports.specs.Forms.{count_line, count_numbers, json_fields, json_head, json_line, named_line, shown_estimate};
 ghost use Rattle.keys_reports.specs.Forms.{shown_line, tsv_head, tsv_name, tsv_row, tsv_values};
 ghost use Rattle.keys_reports.specs.Names.{escaped_name};
 
@@ -25,6 +25,54 @@ pub fn count_line<A: Allocator>(
     } else {
         format!(in alloc; "{estimate}\n")
     }
+}
+
+/// Appends the numbers of a count: the estimate, and with bounds the lower and the upper one after it.
+fn put_numbers<A: Allocator>(
+    line: &mut String<A>,
+    report: Report,
+    with_bounds: bool,
+) -> Result<(), AllocError>
+    ensures { OnOk result (string_bytes line.new ≡ string_bytes line.old ++ count_numbers with_bounds report) }
+{
+    let estimate = report.estimate;
+    let lower = report.interval.lower;
+    let upper = report.interval.upper;
+    if with_bounds {
+        write!(line, "{estimate} {lower} {upper}")
+    } else {
+        write!(line, "{estimate}")
+    }
+}
+
+/// Appends a tab, a name, whose control characters are escaped, and the end of the line.
+pub(crate) fn put_name_behind<A: Allocator + Clone>(
+    alloc: A,
+    line: &mut String<A>,
+    name: &str,
+) -> Result<(), AllocError>
+    ensures { OnOk result (string_bytes line.new ≡ named_line (string_bytes line.old) name.now) }
+{
+    let name = escaped_name(alloc, name)?;
+    line.push_str("\t")?;
+    line.push_str(name.as_str())?;
+    line.push_str("\n")
+}
+
+/// The line of a count with a name behind it: the estimate, and with bounds the lower and the upper one after it,
+/// separated by spaces, a tab, and the name, whose control characters are escaped.
+pub fn named_count_line<A: Allocator + Clone>(
+    alloc: A,
+    name: &str,
+    report: Report,
+    with_bounds: bool,
+) -> Result<String<A>, AllocError>
+    ensures { IfOk result (λ text. string_bytes text ≡ named_line (count_numbers with_bounds report) name.now) }
+{
+    let mut line = String::new(alloc.clone()?);
+    put_numbers(&mut line, report, with_bounds)?;
+    put_name_behind(alloc, &mut line, name)?;
+    Ok(line)
 }
 
 /// Appends the estimate and how near it is.

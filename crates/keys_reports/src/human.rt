@@ -2,7 +2,9 @@
 ghost use Rattle.std.specs.Prelude.{◌≡◌, ◌<◌, ◌≤◌, ◌++◌, IfOk, OnOk, string_bytes};
 ghost use Rattle.keys_reports.specs.Human.{grouped, human_count, human_line, in_groups, lowered, nearest_multiple};
 ghost use Rattle.keys_reports.specs.Human.{raised, three_digits, unit_from, unit_of};
+ghost use Rattle.keys_reports.specs.Forms.{named_line};
 
+use crate::forms::put_name_behind;
 use crate::report::Report;
 use std::alloc::{AllocError, Allocator};
 
@@ -142,5 +144,19 @@ pub fn human_line<A: Allocator>(alloc: A, report: Report) -> Result<String<A>, A
     let mut line = String::new(alloc);
     put_count(&mut line, report)?;
     line.push_str("\n")?;
+    Ok(line)
+}
+
+/// The line of a count for people with a name behind it: a tab, and the name, whose control characters are escaped.
+pub fn named_human_line<A: Allocator + Clone>(
+    alloc: A,
+    name: &str,
+    report: Report,
+) -> Result<String<A>, AllocError>
+    ensures { IfOk result (λ text. string_bytes text ≡ named_line (human_count report) name.now) }
+{
+    let mut line = String::new(alloc.clone()?);
+    put_count(&mut line, report)?;
+    put_name_behind(alloc, &mut line, name)?;
     Ok(line)
 }

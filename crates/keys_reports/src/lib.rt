@@ -12,9 +12,9 @@ mod part;
 mod ranges;
 mod report;
 
-pub use forms::{count_line, json_line, shown_line, tsv_head, tsv_row};
-pub use human::human_line;
-pub use names::escaped_name;
+pub use forms::{count_line, json_line, named_count_line, shown_line, tsv_head, tsv_row};
+pub use human::{human_line, named_human_line};
+pub use names::{escaped_name, put_json_string};
 pub use part::report_of_part;
 pub use ranges::{range_json_line, range_line, range_tsv_head, range_tsv_row};
 pub use report::{Report, estimate_so_far, report_of};

@@ -127,10 +127,7 @@ fn put_json_char<A: Allocator>(text: &mut String<A>, c: char) -> Result<(), Allo
 }
 
 /// Appends a name as a JSON string.
-pub(crate) fn put_json_string<A: Allocator>(
-    text: &mut String<A>,
-    name: &str,
-) -> Result<(), AllocError>
+pub fn put_json_string<A: Allocator>(text: &mut String<A>, name: &str) -> Result<(), AllocError>
     ensures { OnOk result (string_bytes text.new ≡ string_bytes text.old ++ json_string name.now) }
 {
     text.push_str("\"")?;

@@ -40,12 +40,21 @@ similarity_tsv_row s =
     ++ codes "\t" ++ decimal s.theta
     ++ codes "\n")
 
--- a similarity as a JSON object, on a line
-abbrev pub similarity_json_line : Similarity → List ℕ
-similarity_json_line s =
-    codes "{\"similarity\":" ++ (bounded_text (codes ",\"lower\":") (codes ",\"upper\":") s
-    ++ (codes ",\"exact\":" ++ truth s.exact
+-- the fields of a similarity in a JSON object: its share with bounds, and the others, with the end of the object and of its line
+abbrev pub json_share : Similarity → List ℕ
+json_share s = codes "\"similarity\":" ++ bounded_text (codes ",\"lower\":") (codes ",\"upper\":") s
+
+abbrev pub json_counts : Similarity → List ℕ
+json_counts s =
+    codes ",\"exact\":" ++ truth s.exact
     ++ codes ",\"shared\":" ++ decimal s.shared
     ++ codes ",\"united\":" ++ decimal s.united
     ++ codes ",\"theta\":" ++ decimal s.theta
-    ++ codes "}\n"))
+    ++ codes "}\n"
+
+abbrev pub similarity_json_rest : Similarity → List ℕ
+similarity_json_rest s = json_share s ++ json_counts s
+
+-- a similarity as a JSON object, on a line
+abbrev pub similarity_json_line : Similarity → List ℕ
+similarity_json_line s = codes "{" ++ similarity_json_rest s

@@ -1,7 +1,9 @@
 //! The lines that are written of a similarity. Each ends in an LF. The only error is `AllocError`.
 ghost use Rattle.std.specs.Prelude.{◌≡◌, ◌<◌, ◌+◌, ◌++◌, [], ◌∷◌, IfOk, OnOk, string_bytes};
-ghost use Rattle.similarities.specs.Forms.{bounded_text, last_digits, share_text, similarity_line};
-ghost use Rattle.similarities.specs.Forms.{similarity_json_line, similarity_tsv_head, similarity_tsv_row};
+ghost use Rattle.similarities.specs.Forms.{bounded_text, json_counts, json_share, last_digits, share_text};
+ghost use Rattle.similarities.specs.Forms.{similarity_line};
+ghost use Rattle.similarities.specs.Forms.{similarity_json_line, similarity_json_rest, similarity_tsv_head};
+ghost use Rattle.similarities.specs.Forms.{similarity_tsv_row};
 
 use crate::similarity::{MILLION, Similarity};
 use std::alloc::{AllocError, Allocator};
@@ -103,6 +105,46 @@ pub fn similarity_tsv_row<A: Allocator>(
     Ok(row)
 }
 
+/// Appends the share of a similarity and its bounds as fields of a JSON object.
+fn put_json_share<A: Allocator>(
+    line: &mut String<A>,
+    similarity: Similarity,
+) -> Result<(), AllocError>
+    ensures { OnOk result (string_bytes line.new ≡ string_bytes line.old ++ json_share similarity) }
+{
+    line.push_str("\"similarity\":")?;
+    put_bounded(line, similarity, ",\"lower\":", ",\"upper\":")
+}
+
+/// Appends the other fields of a similarity in a JSON object, and the end of the object and of its line.
+fn put_json_counts<A: Allocator>(
+    line: &mut String<A>,
+    similarity: Similarity,
+) -> Result<(), AllocError>
+    ensures { OnOk result (string_bytes line.new ≡ string_bytes line.old ++ json_counts similarity) }
+{
+    let exact = similarity.exact;
+    let shared = similarity.shared;
+    let united = similarity.united;
+    let theta = similarity.theta;
+    write!(
+        line,
+        ",\"exact\":{exact},\"shared\":{shared},\"united\":{united},\"theta\":{theta}"
+    )?;
+    line.push_str("}\n")
+}
+
+/// Appends the fields of a similarity in a JSON object, and the end of the object and of its line.
+pub fn put_similarity_json_rest<A: Allocator>(
+    line: &mut String<A>,
+    similarity: Similarity,
+) -> Result<(), AllocError>
+    ensures { OnOk result (string_bytes line.new ≡ string_bytes line.old ++ similarity_json_rest similarity) }
+{
+    put_json_share(line, similarity)?;
+    put_json_counts(line, similarity)
+}
+
 /// A similarity as a JSON object on a line.
 pub fn similarity_json_line<A: Allocator>(
     alloc: A,
@@ -110,16 +152,7 @@ pub fn similarity_json_line<A: Allocator>(
 ) -> Result<String<A>, AllocError>
     ensures { IfOk result (λ text. string_bytes text ≡ similarity_json_line similarity) }
 {
-    let exact = similarity.exact;
-    let shared = similarity.shared;
-    let united = similarity.united;
-    let theta = similarity.theta;
-    let mut line = String::from_str(alloc, "{\"similarity\":")?;
-    put_bounded(&mut line, similarity, ",\"lower\":", ",\"upper\":")?;
-    write!(
-        line,
-        ",\"exact\":{exact},\"shared\":{shared},\"united\":{united},\"theta\":{theta}"
-    )?;
-    line.push_str("}\n")?;
+    let mut line = String::from_str(alloc, "{")?;
+    put_similarity_json_rest(&mut line, similarity)?;
     Ok(line)
 }

@@ -11,5 +11,8 @@ mod forms;
 pub mod laws;
 mod similarity;
 
-pub use forms::{similarity_json_line, similarity_line, similarity_tsv_head, similarity_tsv_row};
+pub use forms::{
+    put_similarity_json_rest, similarity_json_line, similarity_line, similarity_tsv_head,
+    similarity_tsv_row,
+};
 pub use similarity::{MILLION, Nonempty, Overlap, Similarity, similarity_of};

@@ -63,6 +63,9 @@ fn put_names(text: &mut String, options: &Options<'_>) -> Result<(), AllocError>
         Seed::Number(seed) => write!(text, " seed={seed}")?,
         Seed::File(name) => write!(text, " seed_file={name}")?,
     }
+    put_value(text, "field_text", options.field_text)?;
+    put_value(text, "by_text", options.by_text)?;
+    put_value(text, "value_text", options.value_text)?;
     put_value(text, "list", options.list)?;
     if let Some(share) = options.part {
         write!(text, " part={}/{}", share.index, share.parts)?;
@@ -80,7 +83,10 @@ fn put_flags(text: &mut String, options: &Options<'_>) -> Result<(), AllocError>
         (" sums", options.sums),
         (" visits", options.visits),
         (" csv", options.csv),
+        (" blanks", options.blanks),
+        (" crlf", options.crlf),
         (" header", options.header),
+        (" per_file", options.per_file),
         (" keys", options.keys),
         (" progress", options.progress),
         (" human", options.human),

@@ -14,6 +14,7 @@ ghost use Rattle.distinct_commands.specs.Answers.{Performs};
 ghost use Rattle.distinct_commands.specs.Eval.{IsEvaluatedOf};
 ghost use Rattle.distinct_commands.specs.Operands.{words_for, words_in, Suits, SuitsAction};
 ghost use Rattle.distinct_commands.specs.Similarity.{IsComparedOf};
+ghost use Rattle.distinct_commands.specs.Matrix.{IsMatrixOf};
 ghost use Rattle.distinct_commands.specs.Sums.{IsTotalText};
 ghost use Rattle.distinct_commands.specs.Visits.{IsVisitsText};
 
@@ -85,7 +86,7 @@ fn count_of(
 ) -> Result<Vec<u8>, Failure>
     requires seeded { seed_hash seed ≢ 0 }
     ensures counted { IfOk result (λ v.
-        IsCountText options.now.groups (options_of options.now) seed (texts_of texts.now) v.items) }
+        IsCountText options.now.groups (options_of options.now) seed (names_of names.now) (texts_of texts.now) v.items) }
 {
     let written = answered(
         alloc,
@@ -284,6 +285,29 @@ fn similarity_of(
     Ok(written.0)
 }
 
+/// What `matrix` writes of files of images.
+fn matrix_of(
+    alloc: Global,
+    options: &Options<'_>,
+    seed: u64,
+    names: &[String],
+    texts: &[Vec<u8>],
+) -> Result<Vec<u8>, Failure>
+    requires seeded { seed_hash seed ≢ 0 }
+    ensures compared { IfOk result (λ v.
+        IsMatrixOf (options_of options.now) seed (names_of names.now) (texts_of texts.now) v.items) }
+{
+    let written = answered(
+        alloc,
+        Command::Matrix,
+        options,
+        seed,
+        Operands::Files(names),
+        texts,
+    )?;
+    Ok(written.0)
+}
+
 /// What a command writes, by its helper.
 fn written_by(
     alloc: Global,
@@ -306,6 +330,7 @@ fn written_by(
         Command::Visits => visits_of(alloc, options, seed, names, texts),
         Command::Sum => sum_of(alloc, options, seed, names, texts),
         Command::Similarity => similarity_of(alloc, options, seed, names, texts),
+        Command::Matrix => matrix_of(alloc, options, seed, names, texts),
     }
 }
 
@@ -427,7 +452,7 @@ fn both_written(
         return Err(Failure::NoFiles);
     }
     let is_sums = command == Command::Visits || command == Command::Sum;
-    let compares = command == Command::Similarity;
+    let compares = command == Command::Similarity || command == Command::Matrix;
     let has_lines = command == Command::Count || command == Command::Sketch || is_sums;
     let reads_lines = options.keys || has_lines && !options.sums;
     let prints = command == Command::Count || command == Command::Show || command == Command::Eval;
@@ -506,6 +531,7 @@ fn writes_each_answer(rt: HostRuntime) -> Result<(), Fail> {
             DAYS,
             "y\t3\nx\t2\n\t1\nz\t1\n",
         ),
+        (&["count", "--per-file", "a", "b"], DAYS, "4\ta\n3\tb\n"),
         (
             &["sketch", "--hex", "--seed", "1", "a", "b"],
             TEXTS,
@@ -553,6 +579,11 @@ fn writes_each_answer(rt: HostRuntime) -> Result<(), Fail> {
             &["similarity", "--bounds=1", "a", "b"],
             ESTIMATING,
             "0.333333 0.135643 0.614357\n",
+        ),
+        (
+            &["matrix", "--bounds=1", "a", "b"],
+            ESTIMATING,
+            "a\tb\t2\t2\t2\t0.333333 0.135643 0.614357\n",
         ),
         (
             &["eval", "--keys", "--lg-k=4", "a + b"],
