@@ -25,23 +25,28 @@ MAX_THETA = 2**63 - 1
 DEFAULT_SEED = 9001
 M64 = 2**64 - 1
 
-LINES = "-C --lg-k --field --separator --csv --header --seed --seed-file --files0-from --part --progress "
+LINES = "-C --lg-k --field --separator --csv --blanks --crlf --header --seed --seed-file --files0-from --part --progress "
 OPTIONS = {
-    "count": LINES + "--by --hex --groups --sort --min --top --bounds --human --tsv --json",
+    "count": LINES + "--by --hex --groups --per-file --sort --min --top --bounds --human --tsv --json",
     "sketch": LINES + "--by --value --summary --visits --hex --output --output-dir --force",
     "union": "-C --lg-k --seed --seed-file --files0-from --expect --hex --groups --sums --summary --output",
     "meet": "-C --seed --seed-file --files0-from --expect --hex --groups --output",
     "minus": "-C --seed --seed-file --hex --groups --output",
     "show": "-C --seed --seed-file --files0-from --hex --groups --bounds --tsv --json",
-    "eval": "-C --lg-k --seed --seed-file --keys --sums --summary --field --separator --bounds --tsv --json --hex --output --force",
-    "visits": "-C --lg-k --field --separator --csv --header --sums --hex --seed --seed-file --files0-from --part --bounds --tsv --json",
+    "eval": "-C --lg-k --seed --seed-file --keys --sums --summary --field --separator --csv --blanks --crlf --header --bounds --tsv --json --hex --output --force",
+    "visits": "-C --lg-k --field --separator --csv --blanks --crlf --header --sums --hex --seed --seed-file --files0-from --part --bounds --tsv --json",
     "similarity": "-C --seed --seed-file --hex --bounds --tsv --json",
-    "sum": "-C --value --lg-k --field --separator --csv --header --seed --seed-file --files0-from --part --tsv --json",
+    "matrix": "-C --seed --seed-file --files0-from --hex --bounds --tsv --json",
+    "sum": "-C --value --lg-k --field --separator --csv --blanks --crlf --header --seed --seed-file --files0-from --part --tsv --json",
 }
 OPTIONS = {command: f"{options} --quiet" + " --error" * (command in ("count", "sketch", "visits", "sum")) for command, options in OPTIONS.items()}
-FLAGS = ("--hex", "--groups", "--sums", "--visits", "--progress", "--keys", "--force", "--quiet", "--human", "--csv", "--header")
+FLAGS = ("--hex", "--groups", "--sums", "--visits", "--progress", "--keys", "--force", "--quiet", "--human", "--csv", "--blanks", "--crlf", "--header", "--per-file")
 # Short names of options with a value, which may be attached to them.
 SHORT = {"-k": "--lg-k", "-f": "--field", "-d": "--separator", "-o": "--output"}
+# What a line end in a field of a record is until the field is chosen.
+LINE_END = b"\x1d"
+# Options that choose fields: by a number, or by a text of numbers and names.
+COLUMNS = ("--field", "--by", "--value")
 # How the numbers of a key are combined.
 MODES = {"sum": int.__add__, "min": min, "max": max}
 FAMILIES = (
@@ -159,7 +164,7 @@ def sums_of(texts, options, seed):
         for number, line in enumerate(lines_of(text), 1):
             value = key_of(line, options["--value"], options["--separator"]) if options.get("--value") else b"1"
             if not re.fullmatch(rb"[0-9]+", value) or int(value) > M64:
-                found = f'its value "{quoted(value)}" in field {options["--value"]}'
+                found = f'its value "{quoted(value)}"' + ("" if options["texts"] else f' in field {options["--value"]}')
                 raise Failure(f"{escaped(called(name))}: line {number}: {found} is not a whole number up to {M64}: check --value and --separator")
             key = murmur(key_of(line, options["--field"], options["--separator"]), seed) >> 1
             sums[key] = combine(sums[key], int(value)) if key in sums else int(value)
@@ -448,8 +453,9 @@ def share_bounds(z, shared, united):
     return below - lower, above + upper
 
 
-def printed_similarity(first, second, options):
-    """The answer of `similarity` on two sketches: what both retain below the lesser theta, among what at least one retains there."""
+def similarity_of(first, second, options):
+    """The shares of `similarity` on two sketches, and the rest of its values: what both retain below the lesser theta, among what at least
+    one retains there."""
     million = 10**6
     theta = min(it[1] if it else MAX_THETA for it in (first, second))
     parts = [{h for h in (it[0] if it else ()) if h < theta} for it in (first, second)]
@@ -464,13 +470,38 @@ def printed_similarity(first, second, options):
         share = (2 * shared * million + united) // (2 * united)
         lower, upper = share_bounds(0 if exact else options["--bounds"] or 2, shared, united)
     shares = ["%d.%06d" % divmod(it, million) for it in (share, lower, upper)]
-    rest = [json.dumps(it) for it in (exact, shared, united, theta)]
-    names = "similarity lower upper exact shared united theta".split()
+    return shares, [json.dumps(it) for it in (exact, shared, united, theta)]
+
+
+SIMILARITY = "similarity lower upper exact shared united theta".split()
+
+
+def printed_similarity(first, second, options):
+    """The answer of `similarity` on two sketches."""
+    shares, rest = similarity_of(first, second, options)
     if options["form"] == "--tsv":
-        return "\t".join(names) + "\n" + "\t".join(shares + rest) + "\n"
+        return "\t".join(SIMILARITY) + "\n" + "\t".join(shares + rest) + "\n"
     if options["form"] == "--json":
-        return "{" + ",".join(f'"{name}":{it}' for name, it in zip(names, shares + rest)) + "}\n"
+        return "{" + ",".join(f'"{name}":{it}' for name, it in zip(SIMILARITY, shares + rest)) + "}\n"
     return " ".join(shares if options["--bounds"] else shares[:1]) + "\n"
+
+
+def printed_matrix(rows, options):
+    """The answer of `matrix` on names and sketches: a line for each two, with the counts of the set expressions A & B, A - B and B - A."""
+    names, lines = ["first", "second", "both", "first_only", "second_only", *SIMILARITY], []
+    for place, (first, a) in enumerate(rows):
+        for second, b in rows[place + 1 :]:
+            counts = [str(report_of(it, 2)["estimate"]) for it in (meet([a, b]), minus(a, b), minus(b, a))]
+            shares, rest = similarity_of(a, b, options)
+            if options["form"] == "--json":
+                values = [json_string(first), json_string(second), *counts, *shares, *rest]
+                lines.append("{" + ",".join(f'"{name}":{it}' for name, it in zip(names, values)) + "}")
+                continue
+            columns = [shown_name(first), shown_name(second), *counts]
+            columns += shares + rest if options["form"] else [" ".join(shares if options["--bounds"] else shares[:1])]
+            lines.append("\t".join(columns))
+    head = ["\t".join(names)] if options["form"] == "--tsv" else []
+    return "".join(line + "\n" for line in head + lines)
 
 
 def escaped(name):
@@ -523,10 +554,15 @@ def for_people(row):
     return f"about {estimate:,} ({lower:,} to {upper:,})"
 
 
+def name_behind(name):
+    """The name of a file behind its count, if it has one."""
+    return "" if name is None else "\t" + shown_name(name)
+
+
 def printed(rows, options, command):
     """The answer of `count` or `show` on reports, each with its name or None."""
     if options["form"] == "--tsv":
-        names = ["name"] * (command != "count") + list(report_of(None, 2))
+        names = ["name"] * (command != "count" or bool(options.get("--per-file"))) + list(report_of(None, 2))
         table = [[shown_name(name or "")] * (name is not None) + [json.dumps(it) for it in row.values()] for name, row in rows]
         return "".join("\t".join(it) + "\n" for it in [names, *table])
     if options["form"] == "--json":
@@ -534,10 +570,10 @@ def printed(rows, options, command):
         pairs = [[f'"{key}":{json.dumps(it)}' for key, it in row.items()] for _, row in rows]
         return "".join("{" + ",".join(name + pair) + "}\n" for name, pair in zip(named, pairs))
     if command == "count" and options.get("--human"):
-        return "".join(for_people(row) + "\n" for _, row in rows)
+        return "".join(for_people(row) + name_behind(name) + "\n" for name, row in rows)
     if command == "count":
         shown = ["estimate", "lower", "upper"] if options["--bounds"] else ["estimate"]
-        return "".join(" ".join(str(row[it]) for it in shown) + "\n" for _, row in rows)
+        return "".join(" ".join(str(row[it]) for it in shown) + name_behind(name) + "\n" for name, row in rows)
     line = "{}: {estimate} {kind}, retained {retained}, theta {theta}\n"
     kinds = ["exact" if row["exact"] else "estimated, from {lower} to {upper}".format(**row) for _, row in rows]
     return "".join(line.format(shown_name(name), kind=kind, **row) for (name, row), kind in zip(rows, kinds))
@@ -598,6 +634,12 @@ def set_option(command, options, words):
         options["seed"] = option, value if option == "--seed-file" else number_of(option, value)
     elif option == "--error":
         options["--lg-k"] = size_of(value)
+    elif option in COLUMNS:
+        options.pop(f"{option} text", None)
+        if re.fullmatch("[0-9]*", value):
+            options[option] = number_of(option, value)
+        else:
+            options |= {option: 1, f"{option} text": value}
     else:
         options[option] = number_of(option, value) if option in RANGES else value
 
@@ -710,10 +752,17 @@ def read_arguments(words):
         raise Fault("sum without --value")
     if "--separator" in options and not {"--field", "--by", "--value", "--csv"} & options.keys():
         raise Fault("--separator without --field, --by, --value and --csv")
-    if "--csv" in options and {"--part", "--groups", "--sums", "--progress"} & options.keys():
-        raise Fault("--csv with --part, --progress, or images")
-    if "--header" in options and "--csv" not in options:
-        raise Fault("--header without --csv")
+    for option in ("--csv", "--blanks", "--crlf", "--header"):
+        if option in options and ({"--groups", "--sums", "--progress"} & options.keys() or command == "eval" and "--keys" not in options):
+            raise Fault(f"{option} with --progress, or images")
+    if {"--csv", "--header"} & options.keys() and "--part" in options:
+        raise Fault("--csv or --header with --part")
+    if "--csv" in options and {"--blanks", "--crlf"} & options.keys():
+        raise Fault("--csv with --blanks or --crlf")
+    if {"--blanks", "--separator"} <= options.keys():
+        raise Fault("--blanks and --separator")
+    if "--per-file" in options and {"--by", "--groups", "--progress"} & options.keys():
+        raise Fault("--per-file with --by, --groups or --progress")
     if {"--sums", "--keys"} <= options.keys():
         raise Fault("--sums and --keys")
     if {"--value", "--visits"} <= options.keys():
@@ -749,10 +798,16 @@ def read_arguments(words):
     read = set(names_of(steps_of(words[0]))) if command == "eval" else words
     if [options["seed"][1], options.get("--files0-from"), *read].count("-") > 1:
         raise Fault("standard input twice")
-    for option in ("--field", "--by", "--sort", "--min", "--top", "--bounds", "--hex", "--groups", "--sums", "--keys", "--output", "--output-dir", "--expect", "--part", "--csv"):
+    options["texts"] = any(f"{it} text" in options for it in COLUMNS)
+    for option in ("--field", "--by", "--value", "--blanks", "--crlf", "--header", "--sort", "--min", "--top", "--bounds", "--hex", "--groups", "--sums", "--keys", "--output", "--output-dir", "--expect", "--part", "--csv"):
         options.setdefault(option)
     options["between fields"] = options.get("--separator", ",").encode()
     options["--separator"] = b"\x1f" if options["--csv"] else options.get("--separator", "\t").encode()
+    options["chosen"] = [options.get(f"{it} text", options[it]) for it in COLUMNS]
+    options["cut"] = options["--separator"]
+    if options["texts"]:
+        options["--separator"] = b"\x1e"
+        options |= {it: options[it] and place for place, it in enumerate(COLUMNS, 1)} | {"--field": 1}
     options["dirs"] = dirs + ([options["-C"]] if "-C" in options else [])
     return command, options, words
 
@@ -787,6 +842,22 @@ def part_of(text, index, parts):
     return b"".join(lines)
 
 
+class WithoutMarks:
+    """Files without the byte order mark that some begin with."""
+
+    def __init__(self, files):
+        self.files = files
+
+    def __contains__(self, name):
+        return name in self.files
+
+    def __getitem__(self, name):
+        return self.files[name].removeprefix(b"\xef\xbb\xbf")
+
+    def __setitem__(self, name, text):
+        self.files[name] = text
+
+
 class InRecords:
     """Files in which each record of CSV is a line: of the fields that options use, or of all, with the byte 31 between two."""
 
@@ -797,10 +868,12 @@ class InRecords:
         return name in self.files
 
     def __getitem__(self, name):
+        if self.options["between fields"] in (b'"', b"\r", b"\n"):
+            raise Uncomputed("records that such a byte separates")
         separator = re.escape(self.options["between fields"])
         field = rb'"(?:[^"]|"")*"|[^"\r\n' + separator + rb"]*"
         record = rb"(?:%s)(?:%s(?:%s))*" % (field, separator, field)
-        used = {self.options.get(it) for it in ("--field", "--by", "--value")} if self.options["--field"] else None
+        used = {self.options[it] for it in COLUMNS} if self.options["--field"] and not self.options["texts"] else None
         text, lines = self.files[name], []
         if not re.fullmatch(rb"(?:%s\r?\n)*(?:%s)?" % (record, record), text):
             raise Uncomputed("what is wrong with records")
@@ -809,10 +882,65 @@ class InRecords:
                 fields = re.findall(rb"(?:\A|%s)(%s)" % (separator, field), whole)
                 values = [it[1:-1].replace(b'""', b'"') if it.startswith(b'"') else it for it in fields]
                 lines.append(b"\x1f".join(it if used is None or number in used else b"" for number, it in enumerate(values, 1)))
-                if b"\n" in lines[-1]:
+                if b"\n" in lines[-1] and not self.options["texts"]:
                     raise Uncomputed("a line end in a field")
-        lines = lines[1:] if "--header" in self.options else lines
+                lines[-1] = lines[-1].replace(b"\n", LINE_END)
+        lines = lines[1:] if self.options["--header"] and not self.options["texts"] else lines
         return b"".join(line + b"\n" for line in lines)
+
+    def __setitem__(self, name, text):
+        self.files[name] = text
+
+
+class OfFields:
+    """Files of whose lines chosen fields are passed on, or whose lines are read without a CR, with blanks as one tab, or without the first."""
+
+    def __init__(self, files, options):
+        self.files, self.options = files, options
+
+    def __contains__(self, name):
+        return name in self.files
+
+    def __getitem__(self, name):
+        options = self.options
+        lines = lines_of(self.files[name])
+        if options["--crlf"]:
+            lines = [line.removesuffix(b"\r") for line in lines]
+        if options["--blanks"]:
+            lines = [b"\t".join(re.findall(rb"[^ \t]+", line)) for line in lines]
+        header = None
+        names = [it for text in options["chosen"] if isinstance(text, str) for it in re.sub(":[0-9]+$", "", text).split(",") if it and not it.isdigit()]
+        if options["--header"] and (options["texts"] or not options["--csv"]) or names:
+            if options["--part"]:
+                raise Uncomputed("names with --part")
+            header, lines = (lines or [b""])[0].split(options["cut"]), lines[1:]
+        if options["texts"]:
+            if re.search("[,:]", str(options["chosen"][2] or "")):
+                raise Uncomputed("a number of several fields, or of a front")
+            lines = [b"\x1e".join(self.part(it, line, header, place) for place, it in enumerate(options["chosen"])) for line in lines]
+        return b"".join(line + b"\n" for line in lines)
+
+    def part(self, chosen, line, header, place):
+        if chosen is None:
+            if place == 0 and (b"\x1e" in line or LINE_END in line):
+                raise Uncomputed("a byte 30")
+            return b"" if place else line
+        text, _, most = str(chosen).rpartition(":") if re.search(":[0-9]+$", str(chosen)) else (str(chosen), "", "")
+        fields, values = line.split(self.options["cut"]), []
+        for item in text.split(","):
+            if item.isdigit() and int(item):
+                number = int(item) - 1
+            elif header and item and item.encode() in header:
+                number = header.index(item.encode())
+            else:
+                raise Uncomputed("a name that the first line lacks")
+            values.append(fields[number] if number < len(fields) else b"")
+            if LINE_END in values[-1]:
+                raise Uncomputed("a line end in a field")
+        if any(byte in value for value in values for byte in b"\x1e\x1f"):
+            raise Uncomputed("a byte 30 or 31")
+        joined = b"\x1f".join(values)
+        return joined[: int(most)] if most else joined
 
     def __setitem__(self, name, text):
         self.files[name] = text
@@ -1013,6 +1141,8 @@ def run(words, files, messages):
     hex_lines = options["--hex"]
     if (command in ("minus", "similarity") and not hex_lines or command == "minus" and options["--groups"]) and len(names) != 2:
         raise Fault("not two files")
+    if command == "matrix" and not hex_lines and "--files0-from" not in options and len(names) < 2:
+        raise Fault("fewer than two files")
     reads_images = command not in ("count", "sketch", "eval", "visits", "sum") or options["--groups"] or command == "visits" and options["--sums"]
     if reads_images and not names and "--files0-from" not in options:
         raise Fault("no image")
@@ -1033,10 +1163,15 @@ def run(words, files, messages):
     part = options["--part"]
     if has_lines:
         look_at(command, [it for it in read if not part or it != "-" and shows_start(len(text_of(files, it)), *part)], files, options, messages)
+    of_fields = has_lines and (options["texts"] or options["--blanks"] or options["--crlf"] or options["--header"] and not options["--csv"])
+    if options["--csv"] or of_fields:
+        files = WithoutMarks(files)
     if part:
         files = InPart(files, part)
     if options["--csv"]:
         files = InRecords(files, options)
+    if of_fields:
+        files = OfFields(files, options)
     if command == "visits" and not options["--sums"]:
         sketch, counts = visits_of([text_of(files, name) for name in names], options, seed)
         return printed_ranges(ranges_of(sketch, counts, options["--bounds"] or 2), options).encode()
@@ -1078,7 +1213,9 @@ def run(words, files, messages):
                 files[file_of(options["--output-dir"], name)] = image.hex().encode() + b"\n" if hex_lines else image
             return b""
         return written(b"".join(group_line(name, image) for name, image in images), files, options)
-    if command in ("count", "sketch"):
+    if command == "count" and "--per-file" in options:
+        rows = [(called(name), sketch_of([text_of(files, name)], options, seed)) for name in names]
+    elif command in ("count", "sketch"):
         sketch = sketch_of([text_of(files, name) for name in names], options, seed)
         rows = [(None, sketch)]
     elif command == "eval":
@@ -1114,6 +1251,12 @@ def run(words, files, messages):
                 raise Failure(f"{place}: the sum of a key is above {M64} with this image")
         if not rows:
             raise Fault("no image")
+    if command == "matrix":
+        if len(rows) < 2:
+            raise Fault("fewer than two images")
+        if hex_lines:
+            rows = [(f"{name}:{place.split()[-1]}", it) for (name, it), place in zip(rows, places)]
+        return printed_matrix(rows, options).encode()
     if command == "similarity":
         if len(rows) != 2:
             raise Fault("not two images")

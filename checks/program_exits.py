@@ -216,9 +216,9 @@ def chosen_inputs(folder):
     two = both("two", images(200_000, 2), 200_000)
     for lg_k, seconds in ((12, 0.5), (20, 2)):
         add(f"`union --lg-k {lg_k}` of two images of 100,000 hashes", ["union", "--lg-k", str(lg_k)], two, None, seconds)
-    many = both("many", images(30_000, 300), 30_000)
-    for lg_k, seconds in ((12, 1), (20, 4)):
-        add(f"`union --lg-k {lg_k}` of 300 images of 100 hashes", ["union", "--lg-k", str(lg_k)], many, None, seconds)
+    many = both("many", images(100_000, 1000), 100_000)
+    for lg_k, seconds in ((12, 1), (20, 2)):
+        add(f"`union --lg-k {lg_k}` of 1000 images of 100 hashes", ["union", "--lg-k", str(lg_k)], many, None, seconds)
     half = both("half", lambda hashes: [image_of(hashes[: 2 * len(hashes) // 3], False), image_of(hashes[len(hashes) // 3 :], False)], 300_000)
     for command in ("meet", "minus"):
         add(f"`{command}` of two images of 200,000 hashes", [command], half, 5)
