@@ -396,8 +396,11 @@ static void orders(void) {
     WANT(kc_seed_hash(SEED, &hash) == KC_OK && hash == 0x93cc && kc_compact_seed_hash(&c, &hash) == KC_OK && hash == 0x93cc);
     WANT(kc_seed_hash(50541, &hash) == KC_INVALID_ARGUMENT && kc_compact_seed_hash(&d, &hash) == KC_INVALID_ARGUMENT && kc_compact_is_ordered(&d, &hash) == KC_INVALID_ARGUMENT && hash == 0x93cc);
     WANT(kc_seed_hash(SEED, NULL) == KC_INVALID_ARGUMENT && kc_compact_seed_hash(&c, NULL) == KC_INVALID_ARGUMENT && kc_compact_is_ordered(&c, NULL) == KC_INVALID_ARGUMENT);
-    /* 2^13 slots, and a list of hashes */
-    WANT(kc_theta_estimated_size(&s, &bytes) == KC_OK && bytes == 8 << 13 && kc_union_estimated_size(&u, &bytes) == KC_OK && bytes == 8 << 13);
+    /* 2^13 slots, and a list of hashes; the hashes of the second form share paths, so this union has lists until it is reset */
+    WANT(kc_theta_estimated_size(&s, &bytes) == KC_OK && bytes == 8 << 13);
+    WANT(kc_union_estimated_size(&u, &bytes) == KC_OK && bytes > 8 * 4096 && bytes < 8 << 13 && bytes % 8 == 0);
+    WANT(kc_union_reset(&u) == KC_OK && kc_theta_compact(&s, &d) == KC_OK && kc_union_add_compact(&u, &d) == KC_OK && kc_compact_free(&d) == KC_OK);
+    WANT(kc_union_estimated_size(&u, &bytes) == KC_OK && bytes == 8 << 13);
     WANT(kc_compact_estimated_size(&c, &bytes) == KC_OK && bytes == 8 * state_of(&c).retained && kc_intersection_result(&i, &d) == KC_OK);
     WANT(kc_intersection_estimated_size(&i, &bytes) == KC_OK && bytes == 8 * state_of(&d).retained && kc_compact_free(&d) == KC_OK && kc_intersection_free(&i) == KC_OK);
     WANT(kc_intersection_new(&i, SEED) == KC_OK && kc_intersection_estimated_size(&i, &bytes) == KC_OK && bytes == 0);
