@@ -33,11 +33,11 @@ OPTIONS = {
     "meet": "-C --seed --seed-file --files0-from --expect --hex --groups --output",
     "minus": "-C --seed --seed-file --hex --groups --output",
     "show": "-C --seed --seed-file --files0-from --hex --groups --bounds --tsv --json",
-    "eval": "-C --lg-k --seed --seed-file --keys --sums --summary --field --separator --csv --blanks --crlf --header --bounds --tsv --json --hex --output --force",
-    "visits": "-C --lg-k --field --separator --csv --blanks --crlf --header --sums --hex --seed --seed-file --files0-from --part --bounds --tsv --json",
+    "eval": "-C --lg-k --seed --seed-file --keys --sums --summary --field --separator --csv --blanks --crlf --header --progress --bounds --tsv --json --hex --output --force",
+    "visits": LINES + "--sums --hex --bounds --tsv --json",
     "similarity": "-C --seed --seed-file --hex --bounds --tsv --json",
     "matrix": "-C --seed --seed-file --files0-from --hex --bounds --tsv --json",
-    "sum": "-C --value --lg-k --field --separator --csv --blanks --crlf --header --seed --seed-file --files0-from --part --tsv --json",
+    "sum": LINES + "--value --tsv --json",
 }
 OPTIONS = {command: f"{options} --quiet" + " --error" * (command in ("count", "sketch", "visits", "sum")) for command, options in OPTIONS.items()}
 FLAGS = ("--hex", "--groups", "--sums", "--visits", "--progress", "--keys", "--force", "--quiet", "--human", "--csv", "--blanks", "--crlf", "--header", "--per-file")
@@ -767,8 +767,10 @@ def read_arguments(words):
         raise Fault("--sums and --keys")
     if {"--value", "--visits"} <= options.keys():
         raise Fault("--value and --visits")
-    if command == "sketch" and {"--value", "--visits"} & options.keys() and {"--by", "--progress"} & options.keys():
-        raise Fault("--value or --visits with --by or --progress")
+    if command == "sketch" and {"--value", "--visits"} & options.keys() and "--by" in options:
+        raise Fault("--value or --visits with --by")
+    if "--progress" in options and ("--sums" in options or command == "eval" and "--keys" not in options):
+        raise Fault("--progress with images")
     if "--summary" in options and ("--value" if command == "sketch" else "--sums") not in options:
         raise Fault("--summary without --value or --sums")
     if command == "visits" and "--hex" in options and "--sums" not in options:

@@ -394,6 +394,7 @@ def check_progress():
     check("distinct count --progress", progress_of("count", "--progress"), (b"2\n", b"distinct: 2 lines, 8 bytes, about 2 distinct\n"))
     by = progress_of("count", "--by", "1", "--progress")
     check("distinct count --by --progress", by, (b"ann\t1\nbob\t1\n", b"distinct: 2 lines, 8 bytes, 2 groups\n"))
+    check("distinct visits --progress", progress_of("visits", "--progress"), (b"1: 2\n", b"distinct: 2 lines, 8 bytes\n"))
 
 
 def check_words():

@@ -4,6 +4,7 @@ use distinct_messages::{Console, Remark};
 use keys_groups::GroupWatch;
 use keys_reports::estimate_so_far;
 use keys_sketches::Watch;
+use keys_sums::SumWatch;
 use std::alloc::Allocator;
 use std::time::{Duration, Instant};
 use theta_sketches::ThetaSketch;
@@ -54,18 +55,22 @@ impl<'a> StderrConsole<'a> {
             }
         }
     }
+
+    /// Counts so many bytes and lines more, and returns whether they are to be reported now.
+    fn is_due(&mut self, bytes: u64, lines: u64) -> bool {
+        if !self.enabled {
+            return false;
+        }
+        self.lines = self.lines.saturating_add(lines);
+        self.bytes = self.bytes.saturating_add(bytes);
+        self.is_time()
+    }
 }
 
 impl<'a> Watch for StderrConsole<'a> {
     fn on_read<A: Allocator>(&mut self, bytes: usize, lines: u64, sketch: &ThetaSketch<A>) {
-        if !self.enabled {
-            return;
-        }
-        self.lines = self.lines.saturating_add(lines);
-        self.bytes = self.bytes.saturating_add(bytes as u64);
-        if self.is_time() {
-            let lines = self.lines;
-            let bytes = self.bytes;
+        if self.is_due(bytes as u64, lines) {
+            let (lines, bytes) = (self.lines, self.bytes);
             let count = estimate_so_far(sketch);
             let _ = eprintln!(self.rt;
                 "distinct: {lines} lines, {bytes} bytes, about {count} distinct"
@@ -76,15 +81,18 @@ impl<'a> Watch for StderrConsole<'a> {
 
 impl<'a> GroupWatch for StderrConsole<'a> {
     fn on_line(&mut self, bytes: usize, groups: usize) {
-        if !self.enabled {
-            return;
-        }
-        self.lines = self.lines.saturating_add(1);
-        self.bytes = self.bytes.saturating_add(bytes as u64).saturating_add(1);
-        if self.is_time() {
-            let lines = self.lines;
-            let bytes = self.bytes;
+        if self.is_due((bytes as u64).saturating_add(1), 1) {
+            let (lines, bytes) = (self.lines, self.bytes);
             let _ = eprintln!(self.rt; "distinct: {lines} lines, {bytes} bytes, {groups} groups");
+        }
+    }
+}
+
+impl<'a> SumWatch for StderrConsole<'a> {
+    fn on_lines(&mut self, bytes: usize, lines: u64) {
+        if self.is_due(bytes as u64, lines) {
+            let (lines, bytes) = (self.lines, self.bytes);
+            let _ = eprintln!(self.rt; "distinct: {lines} lines, {bytes} bytes");
         }
     }
 }

@@ -110,12 +110,12 @@ Read:
       --crlf              a CR at the end of a line is no part of it
       --header            pass over the first line, or record, of each file. Not with --part
       --value M           write an image of sums: for each key, the sum of field M (see distinct
-                          sum --help). Not with --by or --progress
+                          sum --help). Not with --by
       --summary MODE      with --value: keep for each key the sum of its numbers, the least or the
                           greatest. MODE is sum, the default, min or max; an image does not
                           record it
       --visits            write an image of sums: for each key, the number of its lines (see
-                          distinct visits --help). Not with --value, --by or --progress
+                          distinct visits --help). Not with --value or --by
       --files0-from FILE  read the names of the files from FILE, each ended by a NUL byte
       --part I/N          read part I of N of each file's lines, I from 1 to N. A line is in the
                           part in whose range of bytes it begins; the ranges are equal. Files must
@@ -294,6 +294,8 @@ Count:
       --seed-file FILE    read the seed from FILE, which keeps it out of the process list
 
 Print:
+      --progress          with --keys: about once a second, report on standard error how many
+                          lines and bytes were read, and the estimate so far
       --bounds=Z          the bounds of an estimate are for Z standard deviations; Z is 1, 2 or
                           3, default 2
       --tsv               print values separated by tabs, under a line of their names
@@ -343,6 +345,8 @@ Count:
       --seed-file FILE    read the seed from FILE, which keeps it out of the process list
 
 Print:
+      --progress          about once a second, report on standard error how many lines and bytes
+                          were read
       --bounds[=Z]        print bounds of each number too, for Z standard deviations; Z is 1, 2
                           or 3, default 2
       --tsv               print values separated by tabs, under a line of their names
@@ -387,6 +391,8 @@ Count:
       --seed-file FILE    read the seed from FILE, which keeps it out of the process list
 
 Print:
+      --progress          about once a second, report on standard error how many lines and bytes
+                          were read
       --tsv               print values separated by tabs, under a line of their names
       --json              print a JSON object
   -q, --quiet             print no remarks and warnings on standard error

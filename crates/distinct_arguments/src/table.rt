@@ -322,11 +322,6 @@ pub(crate) const OPTIONS: [Row; 35] = [
                 Rule::Excludes(OptionName::By),
                 ": run sketch once per group",
             ),
-            (
-                ALL,
-                Rule::Excludes(OptionName::Progress),
-                ": drop --progress",
-            ),
         ],
     ),
     (
@@ -359,11 +354,6 @@ pub(crate) const OPTIONS: [Row; 35] = [
                 ALL,
                 Rule::Excludes(OptionName::By),
                 ": run sketch once per group",
-            ),
-            (
-                ALL,
-                Rule::Excludes(OptionName::Progress),
-                ": drop --progress",
             ),
         ],
     ),
@@ -552,8 +542,19 @@ pub(crate) const OPTIONS: [Row; 35] = [
         "--progress",
         None,
         Kind::Flag,
-        &["count", "sketch"],
-        &[],
+        &["count", "sketch", "eval", "visits", "sum"],
+        &[
+            (
+                &["eval"],
+                Rule::Needs(OptionName::Keys),
+                ": without it eval reads images",
+            ),
+            (
+                &["visits"],
+                Rule::Excludes(OptionName::Sums),
+                ": images are no lines",
+            ),
+        ],
     ),
     (
         OptionName::Bounds,

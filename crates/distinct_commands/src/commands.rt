@@ -306,7 +306,7 @@ impl<'a, S: Sources + Drop> Job<'a, S> {
                 }
                 self.visit_inputs(console)
             }
-            Command::Sum => self.sum_inputs(),
+            Command::Sum => self.sum_inputs(console),
             Command::Similarity => self.compare_inputs(files.len()),
             Command::Matrix => self.compare_each(files),
         }
@@ -394,7 +394,7 @@ impl<'a, S: Sources + Drop> Job<'a, S> {
         ensures fallible { IfErr result (UnreadableIf S.may_fail) }
     {
         match chosen_amount(self.options) {
-            Some(amount) => self.write_sums(amount),
+            Some(amount) => self.write_sums(amount, console),
             None => self.print_lines(true, console),
         }
     }

@@ -22,7 +22,7 @@ use crate::commands::in_form;
 use crate::job::Job;
 use distinct_arguments::{Fault, Form, Mode, Options};
 use distinct_inputs::Inputs;
-use distinct_messages::{Failure, out_of_memory};
+use distinct_messages::{Console, Failure, out_of_memory};
 use keys_lines::{Hashing, Key};
 use keys_sketches::Sources;
 use keys_sums::{Amount, SumError, SumsOfLines, ValueStart, sum_sources, sums_image};
@@ -165,7 +165,12 @@ fn lines_total_text(alloc: Global, form: Form, sums: &SumsOfLines) -> Result<Str
 impl<'a, S: Sources + Drop> Job<'a, S> {
     /// The sketch of the lines of all sources, each key with what its lines add, combined by a mode, and the total. It
     /// fails if memory is refused, a source can't be read, a sum would be 2^64 or more, or a line adds no number.
-    pub fn sums_of(self, mode: SummaryMode, amount: Amount) -> Result<SumsOfLines, Failure>
+    pub fn sums_of<C: Console>(
+        self,
+        mode: SummaryMode,
+        amount: Amount,
+        console: &mut C,
+    ) -> Result<SumsOfLines, Failure>
         requires seeded { seed_hash self.seed ≢ 0 }
         ensures sums { IfSome (S.texts self.entry.inputs.sources) (λ texts.
             IfOk result (λ s. s.sketch ≡ sums_of mode (options_of self.entry.options.now) amount self.entry.seed texts)) }
@@ -184,7 +189,7 @@ impl<'a, S: Sources + Drop> Job<'a, S> {
             key: options.key(),
             seed,
         };
-        match sum_sources(alloc, mode, hashing, amount, options.lg_k, &mut inputs) {
+        match sum_sources(alloc, mode, hashing, amount, options.lg_k, &mut inputs, console) {
             Ok(sums) => Ok(sums),
             Err(SumError::Failed(error)) => Err(inputs.read_failure(alloc, error)),
             Err(SumError::PastGreatest(line)) => Err(overflow_failure(alloc, &inputs, line)),
@@ -197,7 +202,11 @@ impl<'a, S: Sources + Drop> Job<'a, S> {
 
     /// What `sketch` writes of what the lines of all sources add, combined as the options say. It fails if memory is refused, a source
     /// can't be read, a sum would be 2^64 or more, or a line adds no number.
-    pub fn write_sums(self, amount: Amount) -> Result<Vec<u8>, Failure>
+    pub fn write_sums<C: Console>(
+        self,
+        amount: Amount,
+        console: &mut C,
+    ) -> Result<Vec<u8>, Failure>
         requires seeded { seed_hash self.seed ≢ 0 }
         ensures written { IfSome (S.texts self.entry.inputs.sources) (λ texts.
             IfOk result (λ v. IsSumsText amount (options_of self.entry.options.now) self.entry.seed texts v.items)) }
@@ -208,14 +217,14 @@ impl<'a, S: Sources + Drop> Job<'a, S> {
     {
         let (alloc, options, seed) = (self.alloc, self.options, self.seed);
         let mode = chosen_summary(options);
-        let sums = self.sums_of(mode, amount)?;
+        let sums = self.sums_of(mode, amount, console)?;
         let image = image_of_sums(&sums.sketch, seed)?;
         in_form(alloc, options.hex, image)
     }
 
     /// What `sum` prints of the lines of all sources. It fails if no field has the lines' numbers, memory is refused,
     /// a source can't be read, a sum would be 2^64 or more, or a line has no number.
-    pub fn sum_inputs(self) -> Result<Vec<u8>, Failure>
+    pub fn sum_inputs<C: Console>(self, console: &mut C) -> Result<Vec<u8>, Failure>
         requires seeded { seed_hash self.seed ≢ 0 }
         ensures printed { IfSome (S.texts self.entry.inputs.sources) (λ texts. IfOk result (λ v.
             IsTotalText (chosen_value (options_of self.entry.options.now)) (options_of self.entry.options.now) self.entry.seed texts v.items)) }
@@ -227,7 +236,7 @@ impl<'a, S: Sources + Drop> Job<'a, S> {
         let Some(field) = options.value() else {
             return Err(Failure::Arguments(Fault::SumNeedsValue));
         };
-        let sums = self.sums_of(SummaryMode::Sum, Amount::Number(field))?;
+        let sums = self.sums_of(SummaryMode::Sum, Amount::Number(field), console)?;
         let text = lines_total_text(alloc, options.form, &sums)?;
         Ok(text.into_bytes())
     }

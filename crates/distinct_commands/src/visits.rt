@@ -119,7 +119,7 @@ fn united_visits<S: Sources>(
 impl<'a, S: Sources + Drop> Job<'a, S> {
     /// What `visits` prints of the lines of all sources. It fails if memory is refused, a source can't be read, or a
     /// line occurs 2^64 times.
-    fn visit_lines(self) -> Result<Vec<u8>, Failure>
+    fn visit_lines<C: Console>(self, console: &mut C) -> Result<Vec<u8>, Failure>
         requires seeded { seed_hash self.seed ≢ 0 }
         ensures printed { IfSome (S.texts self.entry.inputs.sources) (λ texts. IfOk result (λ v.
             v.items ≡ visits_text (options_of self.entry.options.now) (visits_of (options_of self.entry.options.now) self.entry.seed texts))) }
@@ -128,7 +128,7 @@ impl<'a, S: Sources + Drop> Job<'a, S> {
         ensures fallible { IfErr result (UnreadableIf S.may_fail) }
     {
         let (alloc, options) = (self.alloc, self.options);
-        let visits = self.sums_of(SummaryMode::Sum, Amount::One)?;
+        let visits = self.sums_of(SummaryMode::Sum, Amount::One, console)?;
         let text = visits_text(alloc, options, &visits.sketch)?;
         Ok(text.into_bytes())
     }
@@ -170,6 +170,6 @@ impl<'a, S: Sources + Drop> Job<'a, S> {
         if self.options.sums {
             return self.visit_images(console);
         }
-        self.visit_lines()
+        self.visit_lines(console)
     }
 }

@@ -6,6 +6,7 @@ use distinct_arguments::Escaped;
 use keys_groups::GroupWatch;
 use keys_reports::Report;
 use keys_sketches::Watch;
+use keys_sums::SumWatch;
 use std::fmt;
 
 /// An image retains more hashes than the union keeps.
@@ -134,8 +135,8 @@ impl fmt::Display for Remark<'_> {
     }
 }
 
-/// Takes remarks, and watches while lines are sketched or put into groups.
-pub trait Console: Watch + GroupWatch {
+/// Takes remarks, and watches while lines are sketched, put into groups or summed.
+pub trait Console: Watch + GroupWatch + SumWatch {
     /// Takes a remark on the answer.
     fn remark(&mut self, remark: Remark<'_>);
 }

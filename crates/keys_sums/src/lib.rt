@@ -12,7 +12,7 @@
 //!
 //! ```
 //! let hashing = Hashing { key: Key::Line, seed: 9001 };
-//! let visits = sum_sources(alloc, SummaryMode::Sum, hashing, Amount::One, 12, &mut sources)?;
+//! let visits = sum_sources(alloc, SummaryMode::Sum, hashing, Amount::One, 12, &mut sources, &mut quiet)?;
 //! let from_five_to_eight = count_in(&visits.sketch, 3);
 //! let lines = visits.total;
 //! ```
@@ -36,6 +36,6 @@ pub use images::{read_sums, sums_image};
 pub use operands::all_sums;
 pub use sources::sum_sources;
 pub use starts::ValueStart;
-pub use summing::{SumError, SumSketch, Summation, SumsOfLines, add_lines};
+pub use summing::{SumError, SumSketch, SumWatch, Summation, SumsOfLines, add_lines};
 pub use tuple_sketches::SummaryMode;
 pub use uniting::{UnionOfSums, union_of_sums, unite_sums};

@@ -10,7 +10,7 @@ ghost use Rattle.keys_sums.specs.Reading.{AddsText, ReportsPastText};
 ghost use Rattle.keys_sums.specs.Refusals.{FailsIf, IsPastIn, LacksNumberAt, LacksNumberOf, RefusesSums};
 
 use crate::addends::Amount;
-use crate::summing::{SumError, Summation, SumsOfLines, add_lines};
+use crate::summing::{SumError, SumWatch, Summation, SumsOfLines, add_lines};
 use keys_lines::Hashing;
 use keys_sketches::{BLOCK, Sources, TextReader};
 use sketch_base::Error;
@@ -18,12 +18,13 @@ use std::alloc::{AllocError, Allocator};
 use tuple_sketches::SummaryMode;
 
 /// Adds what each line of one text adds.
-fn add_source<A: Allocator + Clone, B: Allocator, R: TextReader>(
+fn add_source<A: Allocator + Clone, B: Allocator, R: TextReader, W: SumWatch>(
     summation: &mut Summation<A>,
     alloc: B,
     hashing: Hashing,
     amount: Amount,
     reader: &mut R,
+    watch: &mut W,
 ) -> Result<(), SumError>
     ensures added { AddsText hashing amount (R.remaining reader.old) summation.old result summation.new }
     ensures numbered { IfSome (R.remaining reader.old) (λ text. IfErr result (LacksNumberAt amount text)) }
@@ -32,17 +33,18 @@ fn add_source<A: Allocator + Clone, B: Allocator, R: TextReader>(
     ensures fallible { IfErr result (FailsIf R.may_fail) }
 {
     let mut block = vec![in alloc; 0u8; BLOCK]?;
-    add_lines(summation, hashing, amount, reader, &mut block)
+    add_lines(summation, hashing, amount, reader, &mut block, watch)
 }
 
 /// Adds what each line of all texts adds. Each text is cut into lines by itself: a last line without an LF isn't
 /// joined to the next text.
-fn add_sources<A: Allocator + Clone, B: Allocator + Clone + Drop, S: Sources>(
+fn add_sources<A: Allocator + Clone, B: Allocator + Clone + Drop, S: Sources, W: SumWatch>(
     summation: &mut Summation<A>,
     alloc: B,
     hashing: Hashing,
     amount: Amount,
     sources: &mut S,
+    watch: &mut W,
 ) -> Result<(), SumError>
     ensures added { (mode : SummaryMode) (lg_k : ℕ)
         → HasAdded mode hashing amount lg_k [] summation.old
@@ -58,7 +60,7 @@ fn add_sources<A: Allocator + Clone, B: Allocator + Clone + Drop, S: Sources>(
     for _ in 0..u64::MAX {
         match sources.next_source() {
             Ok(Some(mut source)) => {
-                add_source(summation, alloc.clone()?, hashing, amount, &mut source)?;
+                add_source(summation, alloc.clone()?, hashing, amount, &mut source, watch)?;
             }
             Ok(None) => return Ok(()),
             Err(error) => {
@@ -83,13 +85,14 @@ fn add_sources<A: Allocator + Clone, B: Allocator + Clone + Drop, S: Sources>(
 /// adds none, with the first bytes of the part that should be one, and a sum to be 2^64 or more only if one of all lines
 /// is. If a source fails, or can't be opened, its error is returned: only if sources may fail, so never for texts in
 /// memory. For a wrong `lg_k` or seed nothing is read; no clause says so.
-pub fn sum_sources<A: Allocator + Clone + Drop, S: Sources>(
+pub fn sum_sources<A: Allocator + Clone + Drop, S: Sources, W: SumWatch>(
     alloc: A,
     mode: SummaryMode,
     hashing: Hashing,
     amount: Amount,
     lg_k: u8,
     sources: &mut S,
+    watch: &mut W,
 ) -> Result<SumsOfLines<A>, SumError>
     ensures sketch { IfSome (S.texts sources.old) (λ texts.
         IfOk result (λ s. s.sketch ≡ sketch_of_sums mode hashing (added_by amount) lg_k (lines_of_all texts))) }
@@ -103,6 +106,6 @@ pub fn sum_sources<A: Allocator + Clone + Drop, S: Sources>(
     ensures fallible { IfErr result (FailsIf S.may_fail) }
 {
     let mut summation = Summation::new(alloc.clone()?, mode, hashing.seed, lg_k)?;
-    add_sources(&mut summation, alloc, hashing, amount, sources)?;
+    add_sources(&mut summation, alloc, hashing, amount, sources, watch)?;
     Ok(summation.finish()?)
 }

@@ -325,6 +325,14 @@ fn take_last<A: Allocator + Clone>(
     add_line(summation, amount, last, &[], count)
 }
 
+/// Watches while what lines add is added.
+pub trait SumWatch {
+    /// Called after each read of `bytes` bytes, from 1 to the block's length. `lines` lines, from 0 to `bytes`, ended in
+    /// the bytes and are added. There is no call for a last line without an LF. The numbers are for display: no clause
+    /// speaks of them.
+    fn on_lines(&mut self, bytes: usize, lines: u64);
+}
+
 /// Adds what each line that a reader has left adds, block by block, to the number at the line's key, by the
 /// summation's mode. The seed of `hashing` should be the summation's, which is not checked. An interrupted read is
 /// repeated.
@@ -336,12 +344,13 @@ fn take_last<A: Allocator + Clone>(
 /// first part of the lines is added; no clause says so.
 ///
 /// `block` has at least one byte, and its length is the most that one read gets. Its old contents are not used.
-pub fn add_lines<A: Allocator + Clone, R: TextReader>(
+pub fn add_lines<A: Allocator + Clone, R: TextReader, W: SumWatch>(
     summation: &mut Summation<A>,
     hashing: Hashing,
     amount: Amount,
     reader: &mut R,
     block: &mut [u8],
+    watch: &mut W,
 ) -> Result<(), SumError>
     requires room { 0 < length block.old }
     ensures added { AddsText hashing amount (R.remaining reader.old) summation.old result summation.new }
@@ -361,7 +370,9 @@ pub fn add_lines<A: Allocator + Clone, R: TextReader>(
             }
             Ok(length) => {
                 let bytes = &block[..length];
-                count = take_block(summation, hashing, amount, &mut last, count, bytes)?;
+                let before = count;
+                count = take_block(summation, hashing, amount, &mut last, before, bytes)?;
+                watch.on_lines(length, count.saturating_sub(before));
             }
             Err(error) => {
                 if error.kind() != io::ErrorKind::Interrupted {

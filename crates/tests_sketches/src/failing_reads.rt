@@ -2,7 +2,7 @@
 //! nothing more is read.
 use keys_lines::{Hashing, Key};
 use keys_sketches::{ReadError, TextReader, Watch};
-use keys_sums::{Amount, SumError, SummaryMode};
+use keys_sums::{Amount, SumError, SumWatch, SummaryMode};
 use sketch_base::Error;
 use std::alloc::{Allocator, Global};
 use std::io;
@@ -56,6 +56,10 @@ impl Watch for Quiet {
     fn on_read<A: Allocator>(&mut self, _bytes: usize, _lines: u64, _sketch: &ThetaSketch<A>) {}
 }
 
+impl SumWatch for Quiet {
+    fn on_lines(&mut self, _bytes: usize, _lines: u64) {}
+}
+
 /// The error that the lines were read with, if any, how many reads were made, and how many lines were retained.
 #[derive(Clone, Copy, Debug, PartialEq, Eq)]
 struct Ended {
@@ -87,7 +91,14 @@ fn summed(alloc: Global, kind: ErrorKind) -> Result<Ended, Error> {
     let mut summation = keys_sums::Summation::new(alloc, SummaryMode::Sum, 9001, 12)?;
     let mut reader = FailsOnce { kind, reads: 0 };
     let mut block = [0u8; 64];
-    let made = keys_sums::add_lines(&mut summation, LINES, Amount::One, &mut reader, &mut block);
+    let made = keys_sums::add_lines(
+        &mut summation,
+        LINES,
+        Amount::One,
+        &mut reader,
+        &mut block,
+        &mut Quiet {},
+    );
     let error = match made {
         Ok(()) => None,
         Err(SumError::Failed(error)) => Some(error.kind()),

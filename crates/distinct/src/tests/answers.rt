@@ -24,6 +24,7 @@ use distinct_commands::{Operands, answer, only_expression, perform};
 use distinct_messages::{Console, Failure, Remark};
 use keys_groups::GroupWatch;
 use keys_sketches::{Texts, Watch, hex_line, read_hex};
+use keys_sums::SumWatch;
 use sketch_base::{ErrorKind as SketchError, compute_seed_hash};
 use std::alloc::{AllocError, Allocator, Global};
 use std::test::Fail;
@@ -39,6 +40,10 @@ impl Watch for Quiet {
 
 impl GroupWatch for Quiet {
     fn on_line(&mut self, _bytes: usize, _groups: usize) {}
+}
+
+impl SumWatch for Quiet {
+    fn on_lines(&mut self, _bytes: usize, _lines: u64) {}
 }
 
 impl Console for Quiet {
