@@ -425,18 +425,29 @@ def scaled(number, theta):
     return (2 * number * MAX_THETA + theta) // (2 * theta)
 
 
+def total_bounds(z, sums, theta):
+    """z standard deviations of Horvitz and Thompson's estimate around it (docs/verify/SPECIFICATION.md, "Bounds of a total")."""
+    held, squares = sum(sums), sum(it * it for it in sums)
+    root = ceil_sqrt(squares) if squares < 2**128 - 1 else held
+    reach = z * -(-root * ceil_sqrt((MAX_THETA - theta) * MAX_THETA) // theta)
+    return max(held * MAX_THETA // theta - reach, held), min(-(-held * MAX_THETA // theta) + reach, 2**128 - 1)
+
+
 def printed_total(sketch, options, exact_total=None):
     """The answer of `eval --sums` on a sketch of sums, or of `sum`, which has the exact total of its lines."""
     sums, theta = sketch or ({}, MAX_THETA)
+    behind = ""
     if exact_total is None:
         total = scaled(sum(sums.values()), theta)
-        row = dict(total=total, exact=theta == MAX_THETA, retained=len(sums), theta=theta)
+        lower, upper = total_bounds(options["--bounds"] or 2, sums.values(), theta)
+        row = dict(total=total, lower=lower, upper=upper, exact=theta == MAX_THETA, retained=len(sums), theta=theta)
+        behind = "" if row["exact"] else f" estimated, from {lower} to {upper}"
     else:
         total = exact_total
         row = dict(total=total, keys=scaled(len(sums), theta), exact=theta == MAX_THETA, retained=len(sums), theta=theta)
     if options["form"] == "--tsv":
         return "\t".join(row) + "\n" + "\t".join(json.dumps(it) for it in row.values()) + "\n"
-    return json.dumps(row, separators=(",", ":")) + "\n" if options["form"] else f"{total}\n"
+    return json.dumps(row, separators=(",", ":")) + "\n" if options["form"] else f"{total}{behind}\n"
 
 
 def share_bounds(z, shared, united):
@@ -775,8 +786,8 @@ def read_arguments(words):
         raise Fault("--summary without --value or --sums")
     if command == "visits" and "--hex" in options and "--sums" not in options:
         raise Fault("visits --hex without --sums")
-    if "--sums" in options and ({"--groups", "--field"} & options.keys() or command == "eval" and "--bounds" in options):
-        raise Fault("--sums with --groups, --field or eval --bounds")
+    if "--sums" in options and {"--groups", "--field"} & options.keys():
+        raise Fault("--sums with --groups or --field")
     if command == "sketch" and "--by" in options and "--hex" not in options and "--output-dir" not in options:
         raise Fault("--by without --hex and without --output-dir")
     if options.get("--human") and options["form"]:

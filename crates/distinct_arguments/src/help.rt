@@ -279,9 +279,9 @@ Read:
       --crlf              with --keys: a CR at the end of a line is no part of it
       --header            with --keys: pass over the first line, or record, of each file
       --keys              the files have lines, not images: sketch each with 2^N hashes
-      --sums              read images of sums and print the total, an estimate if keys were
+      --sums              read images of sums and print the total, with bounds if keys were
                           dropped. + and & add the sums of a key, - keeps the sums on its left.
-                          Not with --bounds or --keys
+                          Not with --keys
       --summary MODE      with --sums: + and & add the sums of a key, or keep the least or the
                           greatest. MODE is sum, the default, min or max; pass that of sketch.
                           The total adds the sums that the keys have then

@@ -349,13 +349,11 @@ pub(crate) const OPTIONS: [Row; 35] = [
         None,
         Kind::Flag,
         &["sketch"],
-        &[
-            (
-                ALL,
-                Rule::Excludes(OptionName::By),
-                ": run sketch once per group",
-            ),
-        ],
+        &[(
+            ALL,
+            Rule::Excludes(OptionName::By),
+            ": run sketch once per group",
+        )],
     ),
     (OptionName::Keys, "--keys", None, Kind::Flag, &["eval"], &[]),
     (
@@ -379,11 +377,6 @@ pub(crate) const OPTIONS: [Row; 35] = [
                 ALL,
                 Rule::Excludes(OptionName::Groups),
                 ": unite the images of each group in a run of their own",
-            ),
-            (
-                &["eval"],
-                Rule::Excludes(OptionName::Bounds),
-                ": a total has no bounds",
             ),
         ],
     ),

@@ -17,7 +17,7 @@ use Rattle.distinct_commands.specs.Sums.{total_text}
 
 -- what is printed of a sketch of sums: its total, or its image if it goes to a file
 abbrev pub evaluated_sums_text : OptionValues → Compact (TupleEntry ℕ) → List ℕ
-evaluated_sums_text options s = if is_some options.output then in_form options.hex (written_sums s) else total_text options.form s
+evaluated_sums_text options s = if is_some options.output then in_form options.hex (written_sums s) else total_text options s
 
 -- The result of an expression over the sketches of sums in files, one for each of its names, in the order in which it
 -- first has them. It retains exactly the keys of the expression of the whole streams that are below its theta, with

@@ -12,6 +12,9 @@ use Rattle.keys_sums.specs.Images.{written_sums, ReadsSums}
 use Rattle.keys_sums.specs.Sums.{sketch_of_sums, total_added, GREATEST_TOTAL}
 use Rattle.keys_sums.specs.declared.addends.Amount.{Amount}
 use Rattle.keys_sums.specs.declared.addends.Amount.TheVariants.{Number}
+use Rattle.estimates.specs.Bounds.{deviation_count}
+use Rattle.estimates.specs.declared.bounds.Interval.{Interval}
+use Rattle.totals.specs.Bounds.{total_bounds}
 use Rattle.totals.specs.Forms.{total_json_line, total_line, total_tsv_head, total_tsv_row}
 use Rattle.totals.specs.Forms.{lines_total_json_line, lines_total_line, lines_total_tsv_head, lines_total_tsv_row}
 use Rattle.totals.specs.Totals.{lines_total, total_of}
@@ -22,6 +25,7 @@ use Rattle.distinct_arguments.specs.declared.options.Form.{Form}
 use Rattle.distinct_arguments.specs.declared.options.Form.TheVariants.{Plain, Tsv, Json}
 use Rattle.distinct_inputs.specs.Failures.{chosen_hashing, chosen_summary}
 use Rattle.distinct_inputs.specs.Images.{in_form}
+use Rattle.distinct_commands.specs.Texts.{chosen_deviations}
 
 -- the sketch of the lines of all texts, each retained hash with the sum, the least or the greatest of what its lines add, with
 -- the key and the size that the options set
@@ -39,15 +43,15 @@ pub record IsSumsImageOf (amount : Amount) (options : OptionValues) (seed : ℕ)
 abbrev pub IsSumsText : Amount → OptionValues → (seed : ℕ) → (texts : List (List ℕ)) → List ℕ → Type 0
 IsSumsText amount options seed texts out = (image : List ℕ) × IsSumsImageOf amount options seed texts image × (out ≡ in_form options.hex image)
 
--- what is printed of a total
-abbrev pub totalled_in : Form → Total → List ℕ
-totalled_in Plain total = total_line total
-totalled_in Tsv total = total_tsv_head ++ total_tsv_row total
-totalled_in Json total = total_json_line total
+-- what is printed of a total and its bounds
+abbrev pub totalled_in : Form → Total → Interval → List ℕ
+totalled_in Plain total bounds = total_line total bounds
+totalled_in Tsv total bounds = total_tsv_head ++ total_tsv_row total bounds
+totalled_in Json total bounds = total_json_line total bounds
 
--- what `eval` prints of a sketch of sums
-abbrev pub total_text : Form → Compact (TupleEntry ℕ) → List ℕ
-total_text form s = totalled_in form (total_of s)
+-- what `eval` prints of a sketch of sums: its total, with bounds of the standard deviations that are chosen
+abbrev pub total_text : OptionValues → Compact (TupleEntry ℕ) → List ℕ
+total_text options s = totalled_in options.form (total_of s) (total_bounds (deviation_count (chosen_deviations options)) s)
 
 -- what is printed of the total of lines
 abbrev pub lines_totalled_in : Form → LinesTotal → List ℕ

@@ -101,7 +101,7 @@ fn put_result(
             Err(error) => Err(out_of_memory(error)),
         };
     }
-    let text = total_text(alloc, options.form, sums)?;
+    let text = total_text(alloc, options, sums)?;
     Ok(text.into_bytes())
 }
 

@@ -20,6 +20,7 @@ ghost use Rattle.distinct_commands.specs.Sums.{exact_total, lines_totalled_in, s
 
 use crate::commands::in_form;
 use crate::job::Job;
+use crate::show::chosen_deviations;
 use distinct_arguments::{Fault, Form, Mode, Options};
 use distinct_inputs::Inputs;
 use distinct_messages::{Console, Failure, out_of_memory};
@@ -29,7 +30,8 @@ use keys_sums::{Amount, SumError, SumsOfLines, ValueStart, sum_sources, sums_ima
 use std::alloc::{AllocError, Global};
 use totals::{
     lines_total, lines_total_json_line, lines_total_line, lines_total_tsv_head,
-    lines_total_tsv_row, total_json_line, total_line, total_of, total_tsv_head, total_tsv_row,
+    lines_total_tsv_row, total_bounds, total_json_line, total_line, total_of, total_tsv_head,
+    total_tsv_row,
 };
 use tuple_sketches::{CompactTupleSketch, SummaryMode};
 
@@ -127,21 +129,22 @@ fn image_of_sums(sums: &CompactTupleSketch<u64>, seed: u64) -> Result<Vec<u8>, F
 /// What `eval` prints of a sketch of sums.
 pub fn total_text(
     alloc: Global,
-    form: Form,
+    options: &Options<'_>,
     sums: &CompactTupleSketch<u64>,
 ) -> Result<String, AllocError>
-    ensures { IfOk result (λ text. string_bytes text ≡ total_text form sums.now) }
+    ensures { IfOk result (λ text. string_bytes text ≡ total_text (options_of options.now) sums.now) }
 {
     let total = total_of(sums);
-    match form {
-        Form::Plain => total_line(alloc, total),
+    let bounds = total_bounds(sums, chosen_deviations(options));
+    match options.form {
+        Form::Plain => total_line(alloc, total, bounds),
         Form::Tsv => {
             let mut text = total_tsv_head(alloc)?;
-            let row = total_tsv_row(alloc, total)?;
+            let row = total_tsv_row(alloc, total, bounds)?;
             text.push_str(row.as_str())?;
             Ok(text)
         }
-        Form::Json => total_json_line(alloc, total),
+        Form::Json => total_json_line(alloc, total, bounds),
     }
 }
 
@@ -189,7 +192,15 @@ impl<'a, S: Sources + Drop> Job<'a, S> {
             key: options.key(),
             seed,
         };
-        match sum_sources(alloc, mode, hashing, amount, options.lg_k, &mut inputs, console) {
+        match sum_sources(
+            alloc,
+            mode,
+            hashing,
+            amount,
+            options.lg_k,
+            &mut inputs,
+            console,
+        ) {
             Ok(sums) => Ok(sums),
             Err(SumError::Failed(error)) => Err(inputs.read_failure(alloc, error)),
             Err(SumError::PastGreatest(line)) => Err(overflow_failure(alloc, &inputs, line)),
@@ -202,11 +213,7 @@ impl<'a, S: Sources + Drop> Job<'a, S> {
 
     /// What `sketch` writes of what the lines of all sources add, combined as the options say. It fails if memory is refused, a source
     /// can't be read, a sum would be 2^64 or more, or a line adds no number.
-    pub fn write_sums<C: Console>(
-        self,
-        amount: Amount,
-        console: &mut C,
-    ) -> Result<Vec<u8>, Failure>
+    pub fn write_sums<C: Console>(self, amount: Amount, console: &mut C) -> Result<Vec<u8>, Failure>
         requires seeded { seed_hash self.seed ≢ 0 }
         ensures written { IfSome (S.texts self.entry.inputs.sources) (λ texts.
             IfOk result (λ v. IsSumsText amount (options_of self.entry.options.now) self.entry.seed texts v.items)) }

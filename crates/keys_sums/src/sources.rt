@@ -60,7 +60,14 @@ fn add_sources<A: Allocator + Clone, B: Allocator + Clone + Drop, S: Sources, W:
     for _ in 0..u64::MAX {
         match sources.next_source() {
             Ok(Some(mut source)) => {
-                add_source(summation, alloc.clone()?, hashing, amount, &mut source, watch)?;
+                add_source(
+                    summation,
+                    alloc.clone()?,
+                    hashing,
+                    amount,
+                    &mut source,
+                    watch,
+                )?;
             }
             Ok(None) => return Ok(()),
             Err(error) => {

@@ -6,10 +6,12 @@
 //! exact total is counted beside the sketch, and `LinesTotal` has both.
 #![tactic(auto)]
 
+mod bounds;
 mod forms;
 pub mod laws;
 mod total;
 
+pub use bounds::total_bounds;
 pub use forms::{
     lines_total_json_line, lines_total_line, lines_total_tsv_head, lines_total_tsv_row,
     total_json_line, total_line, total_tsv_head, total_tsv_row,
