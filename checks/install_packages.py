@@ -24,6 +24,7 @@ PACKAGES = {
         "python3-setuptools", "python3-wheel", "lintian", "man-db", "mandoc", "mmdebstrap",
     ],
     "program": ["mmdebstrap"],
+    "pictures": ["gnuplot-nox"],
     "processor": ["qemu-user-static"],
     "dask": ["python3-distributed", "python3-dask", "python3-fsspec", "python3-pandas"],
 }

@@ -4,7 +4,7 @@
 An example is a block of a page that begins with a line `$ COMMAND`; behind each command stands what it writes, on either output. The
 commands of a page run in turn by bash, each block at the top of a copy of this repository's examples and data, so that a later block may
 use files of an earlier one. rt ci builds the program, or rt run in its folder; DISTINCT_PROGRAM names another. `checks/page_examples.py
-PAGE..` runs these pages alone.
+PAGE..` runs these pages alone. A block that calls gnuplot is skipped if it is missing and can't be installed.
 """
 import os
 import shlex
@@ -46,12 +46,20 @@ def blocks_of(page):
         yield first + 1, commands
 
 
+def has_gnuplot():
+    """Whether gnuplot is there, perhaps after it was installed."""
+    return shutil.which("gnuplot") or subprocess.run([os.path.join(ROOT, "checks", "install_packages.py"), "pictures"], check=False).returncode == 0
+
+
 def run_page(page, place):
     """Runs a page's examples in a folder. Returns how many commands ran, and what differs."""
     differs, count = [], 0
     for first, commands in blocks_of(page):
         commands = [(command, wanted) for command, wanted in commands if "./plan " not in command]
         if not commands:
+            continue
+        if any(command.startswith("gnuplot ") for command, _ in commands) and not has_gnuplot():
+            print(f"page_examples: {page}:{first}: skipped, since gnuplot is missing")
             continue
         script = "".join(f"{command}\necho '{PART}'\n" for command, _ in commands)
         done = subprocess.run(["bash"], input=script.encode(), stdout=subprocess.PIPE, stderr=subprocess.STDOUT, cwd=place, check=False)
