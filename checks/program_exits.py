@@ -330,8 +330,37 @@ def on_terminal(*arguments, typed=b""):
         os.close(slave)
 
 
+def with_messages_on_terminal(*arguments):
+    """What distinct writes to a pipe, and its messages, which go to a terminal."""
+    master, slave = pty.openpty()
+    try:
+        done = subprocess.run([PROGRAMS["distinct"], *arguments], stdin=subprocess.DEVNULL, stdout=subprocess.PIPE, stderr=slave, check=False)
+        shown = b""
+        while select.select([master], [], [], 0)[0]:
+            shown += os.read(master, 1 << 16)
+        return done.stdout, shown.replace(b"\r\n", b"\n")
+    finally:
+        os.close(master)
+        os.close(slave)
+
+
+def check_rough(place):
+    """A count that is an estimate says so on a terminal, unless its bounds are printed anyway; to a pipe it is a number alone."""
+    many = os.path.join(place, "many")
+    with open(many, "wb") as file:
+        file.write(b"".join(b"%d\n" % n for n in range(1000)))
+    number, lower, upper = model_distinct.run(["count", "--bounds", "--lg-k", "5", many], model_distinct.OpenFiles(), []).split()
+    rough = b"distinct: about %s lines, from %s to %s\n" % (number, lower, upper)
+    check("distinct count, an estimate", with_messages_on_terminal("count", "--lg-k", "5", many), (number + b"\n", rough))
+    check("distinct count, an estimate, to a pipe", on_terminal("count", "--lg-k", "5", many), (0, number + b"\n", b""))
+    check("distinct count, exact", with_messages_on_terminal("count", many), (b"1000\n", b""))
+    for option in ("--quiet", "--json", "--tsv", "--human", "--bounds"):
+        check(f"distinct count {option}, an estimate", with_messages_on_terminal("count", "--lg-k", "5", option, many)[1], b"")
+
+
 def check_terminal(place):
     """No image is written to a terminal; what is text is, and a command that waits for lines says so."""
+    check_rough(place)
     names = {kind: os.path.join(place, kind) for kind in ("text", "theta", "sums")}
     contents = {"text": b"ann\t1\n", "theta": image_of([5], True), "sums": model_distinct.image_of(({5: 1}, model_distinct.MAX_THETA), 0x93CC, True)}
     for kind, data in contents.items():

@@ -6,6 +6,7 @@ use keys_reports::estimate_so_far;
 use keys_sketches::Watch;
 use keys_sums::SumWatch;
 use std::alloc::Allocator;
+use std::io::IsTerminal;
 use std::time::{Duration, Instant};
 use theta_sketches::ThetaSketch;
 
@@ -98,8 +99,13 @@ impl<'a> SumWatch for StderrConsole<'a> {
 }
 
 impl<'a> Console for StderrConsole<'a> {
+    /// Prints a remark. How rough a number is, it says on a terminal alone: scripts read the number.
     fn remark(&mut self, remark: Remark<'_>) {
-        if !self.quiet {
+        let is_shown = match remark {
+            Remark::Rough(_) => self.rt.stderr().is_terminal(),
+            _ => true,
+        };
+        if is_shown && !self.quiet {
             let _ = eprintln!(self.rt; "distinct: {remark}");
         }
     }

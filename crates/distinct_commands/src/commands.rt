@@ -19,7 +19,7 @@ ghost use Rattle.distinct_messages.specs.declared.failure.Failure.TheVariants as
 use crate::expression::Operands;
 use crate::groups::{GroupPrinter, Listing};
 use crate::job::{Answer, Job};
-use crate::show::count_text;
+use crate::show::{count_text, remark_rough};
 use crate::sums::chosen_amount;
 use distinct_arguments::{Command, Fault, Options, Request, text_of};
 use distinct_inputs::Inputs;
@@ -190,11 +190,12 @@ fn listing_of(images: bool) -> Listing
 }
 
 /// What `count` prints of a sketch of lines, or its image as it is written.
-fn lines_text(
+fn lines_text<C: Console>(
     alloc: Global,
     options: &Options<'_>,
     images: bool,
     sketch: &CompactThetaSketch,
+    console: &mut C,
 ) -> Result<Vec<u8>, Failure>
     ensures text { IfOk result (λ v. v.items ≡ lines_text images (options_of options.now) sketch.now) }
     ensures memory { IfErr result (λ f. f ≡ failure.Memory) }
@@ -202,6 +203,7 @@ fn lines_text(
     if images {
         return image_in_form(alloc, options.hex, sketch);
     }
+    remark_rough(options, sketch, console);
     let text = count_text(alloc, options, sketch)?;
     Ok(text.into_bytes())
 }
@@ -376,7 +378,7 @@ impl<'a, S: Sources + Drop> Job<'a, S> {
             }
             None => {
                 let sketch = self.sketch_inputs(console)?;
-                lines_text(alloc, options, images, &sketch)
+                lines_text(alloc, options, images, &sketch, console)
             }
         }
     }

@@ -103,6 +103,21 @@ pub fn file_count_text(
     }
 }
 
+/// Remarks that a count is an estimate, if it is one and is printed as a number alone.
+pub fn remark_rough<C: Console>(
+    options: &Options<'_>,
+    sketch: &CompactThetaSketch,
+    console: &mut C,
+) {
+    if options.form != Form::Plain || options.human || options.bounds.is_some() {
+        return;
+    }
+    let report = report_of(sketch, Deviations::Two);
+    if !report.exact {
+        console.remark(Remark::Rough(report));
+    }
+}
+
 /// What `show` prints before all sketches.
 pub fn head_of(alloc: Global, form: Form) -> Result<String, AllocError>
     ensures { IfOk result (λ text. string_bytes text ≡ head_of form) }

@@ -108,6 +108,8 @@ pub enum Remark<'a> {
     OtherSeed(OtherSeed<'a>),
     /// The answer, an image, has an estimate.
     Estimated(Report),
+    /// The answer, a number alone, is an estimate: for who reads it on a terminal.
+    Rough(Report),
 }
 
 impl fmt::Display for Remark<'_> {
@@ -125,7 +127,7 @@ impl fmt::Display for Remark<'_> {
                 )
             }
             Remark::OtherSeed(image) => write!(f, "{image}"),
-            Remark::Estimated(report) => {
+            Remark::Estimated(report) | Remark::Rough(report) => {
                 let estimate = report.estimate;
                 let lower = report.interval.lower;
                 let upper = report.interval.upper;
