@@ -50,20 +50,20 @@ def row(name, draw, n):
 
 def total_bounds(z, amounts, theta):
     held, squares = sum(amounts), sum(it * it for it in amounts)
-    root = ceil_sqrt(squares) if squares < 2**128 - 1 else held
+    root = ceil_sqrt(squares) if squares < 2**128 - 1 else min(ceil_sqrt(held) * ceil_sqrt(max(amounts)), held)
     reach = z * -(-root * ceil_sqrt((MAX_THETA - theta) * MAX_THETA) // theta)
     return max(held * MAX_THETA // theta - reach, held), min(-(-held * MAX_THETA // theta) + reach, 2**128 - 1)
 
 
-# Amounts of keys, from 1 on: equal ones, uneven ones, and such that few keys have much or most of the total.
+# The amount of the nth key: equal ones, uneven ones, and such that few keys have much or most of the total.
 AMOUNTS = {
-    "equal": lambda: 100,
-    "from 1 to 1000": lambda: random.randint(1, 1000),
-    "exponential, of mean 1000": lambda: 1 + int(random.expovariate(1 / 1000)),
-    "Pareto of shape 2": lambda: int(100 * random.paretovariate(2)),
-    "Pareto of shape 1.2": lambda: int(100 * random.paretovariate(1.2)),
-    "one of 100 has 1000 times as much": lambda: 100 if random.random() < 0.99 else 100_000,
-    "one of 10,000 has a million times as much": lambda: 100 if random.random() < 0.9999 else 100_000_000,
+    "equal": lambda n: 100,
+    "uniform, from 1 to 1000": lambda n: random.randint(1, 1000),
+    "exponential, of mean 1000": lambda n: 1 + int(random.expovariate(1 / 1000)),
+    "Pareto of shape 2": lambda n: int(100 * random.paretovariate(2)),
+    "Pareto of shape 1.2": lambda n: int(100 * random.paretovariate(1.2)),
+    "one key of 100 has 1000 times as much": lambda n: 100 if n % 100 else 100_000,
+    "one key has a million times as much": lambda n: 100 if n else 100_000_000,
 }
 
 
@@ -72,7 +72,7 @@ def row_of_totals(name, amount, k, n):
     the bounds for two are, as a part of the total, in the middle of the sketches."""
     within, reaches = [0, 0, 0], []
     for _ in range(SKETCHES):
-        amounts = [amount() for _ in range(n)]
+        amounts = [amount(it) for it in range(n)]
         retained, theta = trimmed(k, n)
         held, total = random.sample(amounts, retained), sum(amounts)
         for z in (1, 2, 3):

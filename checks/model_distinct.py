@@ -428,7 +428,7 @@ def scaled(number, theta):
 def total_bounds(z, sums, theta):
     """z standard deviations of Horvitz and Thompson's estimate around it (docs/verify/SPECIFICATION.md, "Bounds of a total")."""
     held, squares = sum(sums), sum(it * it for it in sums)
-    root = ceil_sqrt(squares) if squares < 2**128 - 1 else held
+    root = ceil_sqrt(squares) if squares < 2**128 - 1 else min(ceil_sqrt(held) * ceil_sqrt(max(sums)), held)
     reach = z * -(-root * ceil_sqrt((MAX_THETA - theta) * MAX_THETA) // theta)
     return max(held * MAX_THETA // theta - reach, held), min(-(-held * MAX_THETA // theta) + reach, 2**128 - 1)
 

@@ -79,7 +79,8 @@ Print:
       --top N             print only the first N groups, in the order of --sort, of those that
                           --min leaves; N from 1 to 2^64 - 1
       --progress          about once a second, report on standard error how many lines and bytes
-                          were read, and the estimate or the number of groups so far
+                          were read, and the estimate or the number of groups so far. Not with
+                          --csv, --blanks, --crlf or --header
       --bounds[=Z]        print three numbers: the estimate, its lower and its upper bound, for
                           Z standard deviations; Z is 1, 2 or 3, default 2
       --human             print digits in groups and, of an estimate, its bounds, as in
@@ -133,7 +134,8 @@ Count:
 
 Print:
       --progress          about once a second, report on standard error how many lines and bytes
-                          were read, and the estimate or the number of groups so far
+                          were read, and the estimate or the number of groups so far; with --value
+                          or --visits, the first two. Not with --csv, --blanks, --crlf or --header
       --hex               write the image in hexadecimal, as one line
       --output-dir DIR    with --by: write the image of each group to DIR/GROUP.theta. DIR is
                           created if it is missing
@@ -279,9 +281,9 @@ Read:
       --crlf              with --keys: a CR at the end of a line is no part of it
       --header            with --keys: pass over the first line, or record, of each file
       --keys              the files have lines, not images: sketch each with 2^N hashes
-      --sums              read images of sums and print the total, with bounds if keys were
-                          dropped. + and & add the sums of a key, - keeps the sums on its left.
-                          Not with --keys
+      --sums              read images of sums and print the total; if keys were dropped, an
+                          estimate with bounds. + and & add the sums of a key, - keeps the sums
+                          on its left. Not with --keys
       --summary MODE      with --sums: + and & add the sums of a key, or keep the least or the
                           greatest. MODE is sum, the default, min or max; pass that of sketch.
                           The total adds the sums that the keys have then
@@ -295,7 +297,8 @@ Count:
 
 Print:
       --progress          with --keys: about once a second, report on standard error how many
-                          lines and bytes were read, and the estimate so far
+                          lines and bytes were read of all files, and the estimate of the one
+                          that is being read. Not with --csv, --blanks, --crlf or --header
       --bounds=Z          the bounds of an estimate are for Z standard deviations; Z is 1, 2 or
                           3, default 2
       --tsv               print values separated by tabs, under a line of their names
@@ -345,8 +348,8 @@ Count:
       --seed-file FILE    read the seed from FILE, which keeps it out of the process list
 
 Print:
-      --progress          about once a second, report on standard error how many lines and bytes
-                          were read
+      --progress          about once a second, report the lines and bytes read on standard error.
+                          Not with --csv, --blanks, --crlf or --header
       --bounds[=Z]        print bounds of each number too, for Z standard deviations; Z is 1, 2
                           or 3, default 2
       --tsv               print values separated by tabs, under a line of their names
@@ -391,8 +394,8 @@ Count:
       --seed-file FILE    read the seed from FILE, which keeps it out of the process list
 
 Print:
-      --progress          about once a second, report on standard error how many lines and bytes
-                          were read
+      --progress          about once a second, report the lines and bytes read on standard error.
+                          Not with --csv, --blanks, --crlf or --header
       --tsv               print values separated by tabs, under a line of their names
       --json              print a JSON object
   -q, --quiet             print no remarks and warnings on standard error

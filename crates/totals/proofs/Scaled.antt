@@ -29,7 +29,7 @@ few_below t es pairs below =
     omega (arith, few, length-map es tuple_key)
 
 -- the total is at least the sum, and the sum itself at the greatest theta
-at_least : (n t : ℕ) → 0 < t → t ≤ MAX_THETA → n ≤ nearest (n * MAX_THETA) t
+pub at_least : (n t : ℕ) → 0 < t → t ≤ MAX_THETA → n ≤ nearest (n * MAX_THETA) t
 at_least n t low high =
     let some : 0 < 2 * t = omega (arith, low) in
     let more : n * t ≤ n * MAX_THETA = mul-le n t n MAX_THETA (omega arith) high in

@@ -25,9 +25,18 @@ IsNearTotal z es t n =
     abs_diff (n * t) (sum_of es * MAX_THETA) * abs_diff (n * t) (sum_of es * MAX_THETA)
     ≤ z * z * (squares_of es * ((MAX_THETA - t) * MAX_THETA))
 
--- the root of the sum of the squares, rounded up; the sum itself, which is no less, if the squares have more than 128 bits
+-- the greatest of the sums of entries
+abbrev pub greatest_in : List (TupleEntry ℕ) → ℕ
+greatest_in [] = 0
+greatest_in (e ∷ es) = max e.summary (greatest_in es)
+
+-- the root of the sum times the greatest of its parts, by roots that are rounded up, but at most the sum
+abbrev pub wide_root : (sum greatest : ℕ) → ℕ
+wide_root sum greatest = min (ceil_sqrt sum * ceil_sqrt greatest) sum
+
+-- the root of the sum of the squares, rounded up; if these are 2^128 - 1 or more, a wider one of what they can't exceed
 unfoldable pub root_of : List (TupleEntry ℕ) → ℕ
-root_of es = if nat_lt (squares_of es) GREATEST then ceil_sqrt (squares_of es) else sum_of es
+root_of es = if nat_lt (squares_of es) GREATEST then ceil_sqrt (squares_of es) else wide_root (sum_of es) (greatest_in es)
 
 -- one standard deviation of the estimate, rounded up
 abbrev pub deviation_of : (es : List (TupleEntry ℕ)) → (t : ℕ) → ℕ

@@ -2,8 +2,8 @@
 //!
 //! A sketch of sums retains some keys of its stream, each with the sum of the key's values. The sum of the sums that
 //! it retains is scaled by the greatest theta over its own theta, and so estimates the total of the values of all
-//! keys. If no key was dropped, theta is the greatest, and the total is exact. Where the lines themselves are read, their
-//! exact total is counted beside the sketch, and `LinesTotal` has both.
+//! keys, within bounds (`total_bounds`). If no key was dropped, theta is the greatest, and the total is exact. Where the
+//! lines themselves are read, their exact total is counted beside the sketch, and `LinesTotal` has both.
 #![tactic(auto)]
 
 mod bounds;
