@@ -111,6 +111,8 @@ Read:
       --header            pass over the first line, or record, of each file. Not with --part
       --value M           write an image of sums: for each key, the sum of field M (see distinct
                           sum --help). Not with --by or --progress
+      --skip-invalid      with --value: skip lines without such a number, and report how many of
+                          each file. Messages number the other lines alone
       --summary MODE      with --value: keep for each key the sum of its numbers, the least or the
                           greatest. MODE is sum, the default, min or max; an image does not
                           record it
@@ -373,6 +375,8 @@ Read:
       --value M           add up field M, counted from 1 as in cut -f M, or the one of this name
                           in the first line of each file: decimal digits only, below 2^64. A
                           line without such a number is an error
+      --skip-invalid      skip lines without such a number, and report how many of each file.
+                          Messages number the other lines alone
       --files0-from FILE  read the names of the files from FILE, each ended by a NUL byte
       --part I/N          read part I of N of each file's lines, I from 1 to N. A line is in the
                           part in whose range of bytes it begins; the ranges are equal. Files must
