@@ -28,7 +28,7 @@ M64 = 2**64 - 1
 LINES = "-C --lg-k --field --separator --csv --blanks --crlf --header --seed --seed-file --files0-from --part --progress "
 OPTIONS = {
     "count": LINES + "--by --hex --groups --per-file --sort --min --top --bounds --human --tsv --json",
-    "sketch": LINES + "--by --value --summary --visits --hex --output --output-dir --force",
+    "sketch": LINES + "--by --value --skip-invalid --summary --visits --hex --output --output-dir --force",
     "union": "-C --lg-k --seed --seed-file --files0-from --expect --hex --groups --sums --summary --output",
     "meet": "-C --seed --seed-file --files0-from --expect --hex --groups --output",
     "minus": "-C --seed --seed-file --hex --groups --output",
@@ -37,10 +37,10 @@ OPTIONS = {
     "visits": LINES + "--sums --hex --bounds --tsv --json",
     "similarity": "-C --seed --seed-file --hex --bounds --tsv --json",
     "matrix": "-C --seed --seed-file --files0-from --hex --bounds --tsv --json",
-    "sum": LINES + "--value --tsv --json",
+    "sum": LINES + "--value --skip-invalid --tsv --json",
 }
 OPTIONS = {command: f"{options} --quiet" + " --error" * (command in ("count", "sketch", "visits", "sum")) for command, options in OPTIONS.items()}
-FLAGS = ("--hex", "--groups", "--sums", "--visits", "--progress", "--keys", "--force", "--quiet", "--human", "--csv", "--blanks", "--crlf", "--header", "--per-file")
+FLAGS = ("--hex", "--groups", "--sums", "--visits", "--progress", "--keys", "--force", "--quiet", "--human", "--csv", "--blanks", "--crlf", "--header", "--per-file", "--skip-invalid")
 # Short names of options with a value, which may be attached to them.
 SHORT = {"-k": "--lg-k", "-f": "--field", "-d": "--separator", "-o": "--output"}
 # What a line end in a field of a record is until the field is chosen.
@@ -157,13 +157,18 @@ def visits_of(texts, options, seed):
     return sketch, [counts[it] for it in (sketch[0] if sketch else [])]
 
 
+def number_in(text):
+    """The whole number below 2^64 that a text spells in decimal digits, if it spells one."""
+    return int(text) if re.fullmatch(rb"[0-9]+", text) and int(text) <= M64 else None
+
+
 def sums_of(texts, options, seed):
     """The sketch of the lines of texts, each with its name, with the values of each of its hashes combined by --summary; of 1 without --value."""
     sums, combine = {}, MODES[options.get("--summary", "sum")]
     for name, text in texts:
         for number, line in enumerate(lines_of(text), 1):
             value = key_of(line, options["--value"], options["--separator"]) if options.get("--value") else b"1"
-            if not re.fullmatch(rb"[0-9]+", value) or int(value) > M64:
+            if number_in(value) is None:
                 found = f'its value "{quoted(value)}"' + ("" if options["texts"] else f' in field {options["--value"]}')
                 raise Failure(f"{escaped(called(name))}: line {number}: {found} is not a whole number up to {M64}: check --value and --separator")
             key = murmur(key_of(line, options["--field"], options["--separator"]), seed) >> 1
@@ -780,8 +785,10 @@ def read_arguments(words):
         raise Fault("--value and --visits")
     if command == "sketch" and {"--value", "--visits"} & options.keys() and "--by" in options:
         raise Fault("--value or --visits with --by")
-    if "--progress" in options and ("--sums" in options or command == "eval" and "--keys" not in options):
-        raise Fault("--progress with images")
+    if "--progress" in options and ({"--sums", "--skip-invalid"} & options.keys() or command == "eval" and "--keys" not in options):
+        raise Fault("--progress with images or --skip-invalid")
+    if "--skip-invalid" in options and "--value" not in options:
+        raise Fault("--skip-invalid without --value")
     if "--summary" in options and ("--value" if command == "sketch" else "--sums") not in options:
         raise Fault("--summary without --value or --sums")
     if command == "visits" and "--hex" in options and "--sums" not in options:
@@ -954,6 +961,28 @@ class OfFields:
             raise Uncomputed("a byte 30 or 31")
         joined = b"\x1f".join(values)
         return joined[: int(most)] if most else joined
+
+    def __setitem__(self, name, text):
+        self.files[name] = text
+
+
+class WithNumbers:
+    """Files whose lines without a number are left out, and counted in messages."""
+
+    def __init__(self, files, options, messages):
+        self.files, self.options, self.messages = files, options, messages
+
+    def __contains__(self, name):
+        return name in self.files
+
+    def __getitem__(self, name):
+        lines = lines_of(self.files[name])
+        kept = [it for it in lines if number_in(key_of(it, self.options["--value"], self.options["--separator"])) is not None]
+        skipped = len(lines) - len(kept)
+        if skipped:
+            said = "1 line without a number was skipped" if skipped == 1 else f"{skipped} lines without a number were skipped"
+            self.messages.append(f"{escaped(called(name))}: {said}")
+        return b"".join(line + b"\n" for line in kept)
 
     def __setitem__(self, name, text):
         self.files[name] = text
@@ -1138,6 +1167,20 @@ def joined_groups(command, files):
     return [(name, minus(it, others[0].get(name))) for name, it in first.items()]
 
 
+def summed(files, names, options, seed, messages):
+    """The texts of files, each with its name, and the sketch of their sums. A file that fails isn't read to its end, nor any behind it."""
+    texts = []
+    try:
+        for name in names:
+            before = len(messages)
+            texts.append((name, text_of(files, name)))
+            sums_of(texts, options, seed)
+        return texts, sums_of(texts, options, seed)
+    except Failure:
+        del messages[before:]
+        raise
+
+
 def written(answer, files, options):
     """The answer, or nothing if it is written to the file that `--output` names."""
     if options["--output"] is None:
@@ -1185,16 +1228,17 @@ def run(words, files, messages):
         files = InRecords(files, options)
     if of_fields:
         files = OfFields(files, options)
+    if "--skip-invalid" in options:
+        files = WithNumbers(files, options, messages)
     if command == "visits" and not options["--sums"]:
         sketch, counts = visits_of([text_of(files, name) for name in names], options, seed)
         return printed_ranges(ranges_of(sketch, counts, options["--bounds"] or 2), options).encode()
     if command == "sum":
-        texts = [(name, text_of(files, name)) for name in names]
-        sketch = sums_of(texts, options, seed)
+        texts, sketch = summed(files, names, options, seed, messages)
         values = (key_of(line, options["--value"], options["--separator"]) for _, text in texts for line in lines_of(text))
         return printed_total(sketch, options, sum(int(it) for it in values)).encode()
     if command == "sketch" and (options.get("--value") or options.get("--visits")):
-        image = image_of(sums_of([(name, text_of(files, name)) for name in names], options, seed), seed_hash(seed), True)
+        image = image_of(summed(files, names, options, seed, messages)[1], seed_hash(seed), True)
         return written(image.hex().encode() + b"\n" if hex_lines else image, files, options)
     if options["--groups"]:
         if command in ("meet", "minus"):

@@ -29,7 +29,7 @@ use Rattle.distinct_arguments.specs.declared.table.OptionName.{OptionName}
 use Rattle.distinct_arguments.specs.declared.table.OptionName.TheVariants.{Field, Separator, Csv, Blanks, Crlf, Header, Value, Summary, Visits, Keys, Sums}
 use Rattle.distinct_arguments.specs.declared.table.OptionName.TheVariants.{Hex, FileList, Part, Dir, LgK, Error, Seed, SeedFile, By}
 use Rattle.distinct_arguments.specs.declared.table.OptionName.TheVariants.{Groups, Expect, Sort, Min, Top, Progress, Bounds, Tsv}
-use Rattle.distinct_arguments.specs.declared.table.OptionName.TheVariants.{Json, Human, OutputDir, Output, Force, Quiet, PerFile}
+use Rattle.distinct_arguments.specs.declared.table.OptionName.TheVariants.{Json, Human, OutputDir, Output, Force, Quiet, PerFile, SkipInvalid}
 use Rattle.distinct_arguments.specs.declared.table.Kind.{Kind}
 use Rattle.distinct_arguments.specs.declared.table.Kind.TheVariants as kind
 use Rattle.distinct_arguments.specs.Table.{kind_of}
@@ -57,6 +57,7 @@ pub record OptionValues : Type 0 where
   pub most : Option ℕ
   pub value : Option ℕ
   pub value_text : Option (List ℕ)
+  pub skip_invalid : Bool
   pub summary : Option Mode
   pub visits : Bool
   pub groups : Bool
@@ -106,6 +107,7 @@ default_options command = record {
   most = None;
   value = None;
   value_text = None;
+  skip_invalid = false;
   summary = None;
   visits = false;
   groups = false;
@@ -196,6 +198,7 @@ is_given options Crlf = options.crlf
 is_given options Header = options.header
 is_given options PerFile = options.per_file
 is_given options Value = is_some options.value
+is_given options SkipInvalid = options.skip_invalid
 is_given options Summary = is_some options.summary
 is_given options Visits = options.visits
 is_given options Keys = options.keys
@@ -232,6 +235,7 @@ set_flag options Blanks = record options { blanks = true }
 set_flag options Crlf = record options { crlf = true }
 set_flag options Header = record options { header = true }
 set_flag options PerFile = record options { per_file = true }
+set_flag options SkipInvalid = record options { skip_invalid = true }
 set_flag options Hex = record options { hex = true }
 set_flag options Keys = record options { keys = true }
 set_flag options Visits = record options { visits = true }
@@ -372,6 +376,7 @@ options_of o = record {
   most = o.most;
   value = o.value;
   value_text = option_map (λ text. text.now) o.value_text;
+  skip_invalid = o.skip_invalid;
   summary = o.summary;
   visits = o.visits;
   groups = o.groups;

@@ -112,6 +112,8 @@ Read:
       --header            pass over the first line, or record, of each file. Not with --part
       --value M           write an image of sums: for each key, the sum of field M (see distinct
                           sum --help). Not with --by
+      --skip-invalid      with --value: skip lines without such a number, and report how many of
+                          each file. Messages number the other lines alone
       --summary MODE      with --value: keep for each key the sum of its numbers, the least or the
                           greatest. MODE is sum, the default, min or max; an image does not
                           record it
@@ -135,7 +137,8 @@ Count:
 Print:
       --progress          about once a second, report on standard error how many lines and bytes
                           were read, and the estimate or the number of groups so far; with --value
-                          or --visits, the first two. Not with --csv, --blanks, --crlf or --header
+                          or --visits, the first two. Not with --csv, --blanks, --crlf,
+                          --header or --skip-invalid
       --hex               write the image in hexadecimal, as one line
       --output-dir DIR    with --by: write the image of each group to DIR/GROUP.theta. DIR is
                           created if it is missing
@@ -380,6 +383,8 @@ Read:
       --value M           add up field M, counted from 1 as in cut -f M, or the one of this name
                           in the first line of each file: decimal digits only, below 2^64. A
                           line without such a number is an error
+      --skip-invalid      skip lines without such a number, and report how many of each file.
+                          Messages number the other lines alone
       --files0-from FILE  read the names of the files from FILE, each ended by a NUL byte
       --part I/N          read part I of N of each file's lines, I from 1 to N. A line is in the
                           part in whose range of bytes it begins; the ranges are equal. Files must
@@ -395,7 +400,7 @@ Count:
 
 Print:
       --progress          about once a second, report the lines and bytes read on standard error.
-                          Not with --csv, --blanks, --crlf or --header
+                          Not with --csv, --blanks, --crlf, --header or --skip-invalid
       --tsv               print values separated by tabs, under a line of their names
       --json              print a JSON object
   -q, --quiet             print no remarks and warnings on standard error

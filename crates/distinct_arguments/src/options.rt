@@ -88,6 +88,8 @@ pub struct Options<'a> {
     pub value: Option<u32>,
     /// The text that chooses the field of a line's number, if one does.
     pub value_text: Option<&'a str>,
+    /// Whether lines without such a number are passed over.
+    pub skip_invalid: bool,
     /// How the numbers of a key are combined; added if `None`.
     pub summary: Option<Mode>,
     /// Whether each line adds one to a sum.

@@ -21,6 +21,7 @@ pub enum OptionName {
     Header,
     PerFile,
     Value,
+    SkipInvalid,
     Summary,
     Visits,
     Keys,
@@ -123,7 +124,7 @@ const ALL: &[&str] = &[
 const MOST: u64 = 4294967295;
 
 /// The options: what is read, how it is counted, and what is printed. If several rules are broken, the first counts.
-pub(crate) const OPTIONS: [Row; 35] = [
+pub(crate) const OPTIONS: [Row; 36] = [
     (
         OptionName::Field,
         "--field",
@@ -321,6 +322,25 @@ pub(crate) const OPTIONS: [Row; 35] = [
                 ALL,
                 Rule::Excludes(OptionName::By),
                 ": run sketch once per group",
+            ),
+        ],
+    ),
+    (
+        OptionName::SkipInvalid,
+        "--skip-invalid",
+        None,
+        Kind::Flag,
+        &["sketch", "sum"],
+        &[
+            (
+                ALL,
+                Rule::Needs(OptionName::Value),
+                ": it skips lines without a number",
+            ),
+            (
+                ALL,
+                Rule::Excludes(OptionName::Progress),
+                ": drop --progress",
             ),
         ],
     ),
@@ -635,7 +655,7 @@ pub(crate) const OPTIONS: [Row; 35] = [
 ];
 
 /// The rows of the table.
-pub(crate) fn all_rows() -> [Row; 35]
+pub(crate) fn all_rows() -> [Row; 36]
     ensures { map row_in result ≡ rows }
 {
     OPTIONS

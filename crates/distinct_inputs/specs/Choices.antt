@@ -1,18 +1,28 @@
 -- Lines of which fields are chosen.
-use Rattle.std.specs.Prelude.{ℕ, ◌-◌, ◌||◌, ◌&&◌, Bool, not, List, Option, Some, None}
-use Rattle.distinct_arguments.specs.Settings.{OptionValues, ColumnValue, numbered, texted, between, has_texts}
+use Rattle.std.specs.Prelude.{ℕ, ◌-◌, ◌||◌, ◌&&◌, Bool, not, List, Option, Some, None, if◌then◌else◌}
+use Rattle.distinct_arguments.specs.Settings.{OptionValues, ColumnValue, numbered, texted, between, chosen_value, has_texts}
 use Rattle.distinct_arguments.specs.Words.{number_of}
 use Rattle.std.specs.Option.{option_map}
 use Rattle.keys_fields.specs.declared.layout.Layout.{Layout}
 use Rattle.keys_fields.specs.Names.{place_in}
+use Rattle.keys_sums.specs.declared.addends.Amount.{Amount}
+use Rattle.keys_sums.specs.declared.addends.Amount.TheVariants.{Number}
 
 -- the first line is passed over: of records that no text chooses from, their reader passes over the first
 abbrev pub has_header : OptionValues → Bool
 has_header options = options.header && (not options.csv || has_texts options)
 
--- lines are passed on as others
+-- lines are read in another way: some of their bytes, or the first line, are passed over
+abbrev pub is_read_otherwise : OptionValues → Bool
+is_read_otherwise options = options.blanks || options.crlf || has_header options || has_texts options
+
+-- lines are passed on as others, or left out
 abbrev pub is_mapped : OptionValues → Bool
-is_mapped options = options.blanks || options.crlf || has_header options || has_texts options
+is_mapped options = is_read_otherwise options || options.skip_invalid
+
+-- what a line adds that is passed on, if others are left out
+abbrev pub amount_with : OptionValues → Option Amount
+amount_with options = if options.skip_invalid then option_map Number (chosen_value options) else None
 
 -- how they are read
 abbrev pub layout_with : OptionValues → Layout

@@ -3,11 +3,13 @@ ghost use Rattle.std.specs.Prelude.{◌≡◌, true, false, IfSome, IfNone};
 ghost use Rattle.std.specs.Option.{option_map};
 ghost use Rattle.distinct_arguments.specs.Faults.{options_of};
 ghost use Rattle.distinct_arguments.specs.Settings.{column_value, has_texts};
-ghost use Rattle.distinct_inputs.specs.Choices.{column_with, group_with, has_header, is_mapped, key_with, layout_with, place_for, value_with};
+ghost use Rattle.distinct_inputs.specs.Choices.{amount_with, column_with, group_with, has_header, is_mapped, is_read_otherwise, key_with, layout_with};
+ghost use Rattle.distinct_inputs.specs.Choices.{place_for, value_with};
 
 use distinct_arguments::{Column, Options, number_of};
 use keys_fields::{Chosen, Layout, Mapped, Part, header_of, place_in};
 use keys_records::{Columns, Records};
+use keys_sums::Amount;
 use std::alloc::{AllocError, Global};
 use std::io;
 use std::io::{ErrorKind, Read};
@@ -15,6 +17,8 @@ use std::io::{ErrorKind, Read};
 /// How each line of a file is read, and which of its fields are chosen.
 #[derive(Clone, Copy, Debug)]
 pub struct Choice<'a> {
+    /// Whether lines are read in another way than as all their bytes.
+    is_read_otherwise: bool,
     layout: Layout,
     /// Whether the first line is passed over.
     header: bool,
@@ -23,6 +27,8 @@ pub struct Choice<'a> {
     key: Option<Column<'a>>,
     group: Option<Column<'a>>,
     value: Option<Column<'a>>,
+    /// What a line adds that is passed on, if others are left out.
+    amount: Option<Amount>,
 }
 
 /// What chooses the fields of a part, if anything does.
@@ -38,23 +44,40 @@ fn column_with<'a>(number: Option<u32>, text: Option<&'a str>) -> Option<Column<
     }
 }
 
-/// How the lines of files are passed on as others, if they are.
+/// What a line adds that is passed on, if others are left out.
+fn amount_of(options: &Options<'_>) -> Option<Amount>
+    ensures { result ≡ amount_with (options_of options.now) }
+{
+    if !options.skip_invalid {
+        return None;
+    }
+    match options.value() {
+        Some(key) => Some(Amount::Number(key)),
+        None => None,
+    }
+}
+
+/// How the lines of files are passed on as others, or left out, if they are.
 pub fn choice_of<'a>(options: &Options<'a>) -> Option<Choice<'a>>
     ensures mapped { IfSome result (λ _. is_mapped (options_of options.now) ≡ true) }
     ensures unmapped { IfNone result (is_mapped (options_of options.now) ≡ false) }
+    ensures otherwise { IfSome result (λ c. c.is_read_otherwise ≡ is_read_otherwise (options_of options.now)) }
     ensures parts { IfSome result (λ c. c.has_parts ≡ has_texts (options_of options.now)) }
     ensures header { IfSome result (λ c. c.header ≡ has_header (options_of options.now)) }
     ensures layout { IfSome result (λ c. c.layout ≡ layout_with (options_of options.now)) }
     ensures key { IfSome result (λ c. option_map column_value c.key ≡ key_with (options_of options.now)) }
     ensures group { IfSome result (λ c. option_map column_value c.group ≡ group_with (options_of options.now)) }
     ensures value { IfSome result (λ c. option_map column_value c.value ≡ value_with (options_of options.now)) }
+    ensures amount { IfSome result (λ c. c.amount ≡ amount_with (options_of options.now)) }
 {
     let has_parts = options.has_texts();
     let has_header = options.header && (!options.csv || has_parts);
-    if !(options.blanks || options.crlf || has_header || has_parts) {
+    let is_read_otherwise = options.blanks || options.crlf || has_header || has_parts;
+    if !(is_read_otherwise || options.skip_invalid) {
         return None;
     }
     Some(Choice {
+        is_read_otherwise,
         layout: Layout {
             separator: options.between(),
             blanks: options.blanks,
@@ -65,6 +88,7 @@ pub fn choice_of<'a>(options: &Options<'a>) -> Option<Choice<'a>>
         key: column_with(options.field, options.field_text),
         group: column_with(options.by, options.by_text),
         value: column_with(options.value, options.value_text),
+        amount: amount_of(options),
     })
 }
 
@@ -227,6 +251,11 @@ fn is_at_end<R: Read>(reader: &mut R) -> io::Result<bool> {
 }
 
 impl Choice<'_> {
+    /// Whether a byte order mark in front of the lines is passed over.
+    pub(crate) fn passes_mark(&self) -> bool {
+        self.is_read_otherwise
+    }
+
     /// Whether the first line of a file is read for its names, or passed over.
     pub(crate) fn reads_header(&self) -> bool {
         self.header || is_named(self.key) || is_named(self.group) || is_named(self.value)
@@ -251,9 +280,23 @@ impl Choice<'_> {
         })
     }
 
-    /// The lines of records, of which the reader has read nothing, each passed on as its chosen parts. Fails if the text
-    /// can't be read, or its first line lacks a name. A text without a byte, or with an empty first line alone, lacks none.
+    /// The lines of records, of which the reader has read nothing, each passed on as its chosen parts, or left out if it
+    /// adds no number. Fails if the text can't be read, or its first line lacks a name. A text without a byte, or with an
+    /// empty first line alone, lacks none.
     pub(crate) fn lines_of<R: Read + Drop>(
+        &self,
+        alloc: Global,
+        records: Records<R>,
+    ) -> io::Result<Mapped<Records<R>>> {
+        let lines = self.chosen_lines(alloc, records)?;
+        Ok(match self.amount {
+            Some(amount) => lines.adding(amount),
+            None => lines,
+        })
+    }
+
+    /// The lines of records, each passed on as its chosen parts.
+    fn chosen_lines<R: Read + Drop>(
         &self,
         alloc: Global,
         records: Records<R>,

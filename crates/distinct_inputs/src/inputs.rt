@@ -9,7 +9,7 @@ ghost use Rattle.distinct_inputs.specs.Lists.{are_lines, names_in, names_of};
 use crate::choices::Choice;
 use crate::lists::{ListError, names_in};
 use distinct_arguments::Share;
-use distinct_messages::{Failure, NoLines, Remark, display_name, nature_of};
+use distinct_messages::{Failure, NoLines, Remark, Skipped, display_name, nature_of};
 use keys_fields::Fields;
 use keys_parts::{Part, Places};
 use keys_records::{Form, Records};
@@ -152,6 +152,60 @@ impl TextReader for Input<'_> {
     }
 }
 
+/// The lines of a file that are passed on. At its end it is reported how many were left out.
+#[derive(Drop)]
+pub struct Lines<'a> {
+    fields: Fields<Records<Part<Input<'a>>>>,
+    /// What reports them, until it has, if they are reported.
+    report: Option<SkipReport<'a>>,
+}
+
+/// The report of the lines of a file that are left out.
+#[derive(Clone, Copy)]
+struct SkipReport<'a> {
+    rt: &'a HostRuntime,
+    name: &'a str,
+}
+
+impl SkipReport<'_> {
+    /// Prints how many lines are left out, if any is.
+    fn print_of(self, count: u64) {
+        if count == 0 {
+            return;
+        }
+        let remark = Remark::Skipped(Skipped {
+            name: self.name,
+            count,
+        });
+        let _ = eprintln!(self.rt; "distinct: {remark}");
+    }
+}
+
+impl Read for Lines<'_> {
+    fn read(&mut self, buf: &mut [u8]) -> io::Result<usize> {
+        let count = self.fields.read(buf)?;
+        if count == 0 && !buf.is_empty() {
+            if let Some(report) = self.report {
+                report.print_of(self.fields.left_out());
+            }
+            self.report = None;
+        }
+        Ok(count)
+    }
+}
+
+impl TextReader for Lines<'_> {
+    ghost use Rattle.std.specs.Prelude.{◌≡◌, true};
+
+    ghost may_fail = { true };
+
+    fn may_fail() -> bool
+        ensures { result ≡ true }
+    {
+        true
+    }
+}
+
 /// What a message says of a file that has no parts.
 const NO_PARTS: &str = "is not a regular file, as --part needs: copy it to one, or read it whole";
 
@@ -271,7 +325,7 @@ impl<'a> Files<'a> {
     fn part_of(&self, name: &'a str) -> io::Result<Part<Input<'a>>> {
         let mut opened = open(self.rt, name)?;
         let warning = self.warning_of(name);
-        let passes_mark = self.form.is_some() || self.choice.is_some();
+        let passes_mark = self.form.is_some() || self.choice.is_some_and(|c| c.passes_mark());
         let Some(share) = self.share else {
             return Ok(Part::whole(Input::new(opened, warning, passes_mark)));
         };
@@ -296,7 +350,7 @@ impl<'a> Files<'a> {
 }
 
 impl<'a> Sources for Files<'a> {
-    type Source = Fields<Records<Part<Input<'a>>>>;
+    type Source = Lines<'a>;
 
     ghost texts = { λ _. None };
 
@@ -310,10 +364,23 @@ impl<'a> Sources for Files<'a> {
         true
     }
 
-    fn next_source(&mut self) -> io::Result<Option<Fields<Records<Part<Input<'a>>>>>> {
+    fn next_source(&mut self) -> io::Result<Option<Lines<'a>>> {
         let Some(name) = self.next_name() else {
             return Ok(None);
         };
+        let fields = self.fields_of(name)?;
+        let report = if self.is_quiet {
+            None
+        } else {
+            Some(SkipReport { rt: self.rt, name })
+        };
+        Ok(Some(Lines { fields, report }))
+    }
+}
+
+impl<'a> Files<'a> {
+    /// The lines of the file of this name.
+    fn fields_of(&self, name: &'a str) -> io::Result<Fields<Records<Part<Input<'a>>>>> {
         let part = self.part_of(name)?;
         if name == "-" && !self.is_quiet && self.rt.stdin().is_terminal() {
             let _ = eprintln!(self.rt;
@@ -330,13 +397,13 @@ impl<'a> Sources for Files<'a> {
             None => Records::whole(part),
         };
         let Some(choice) = self.choice else {
-            return Ok(Some(Fields::Whole(records)));
+            return Ok(Fields::Whole(records));
         };
         if self.share.is_some() && choice.reads_header() {
             return Err(io::Error::new(ErrorKind::InvalidInput, NO_HEADER));
         }
         let lines = choice.lines_of(self.rt.alloc(), records)?;
-        Ok(Some(Fields::Mapped(lines)))
+        Ok(Fields::Mapped(lines))
     }
 }
 

@@ -10,4 +10,4 @@ mod remarks;
 pub use failure::{Failure, display_name, family_name, out_of_memory, passed_status};
 pub use nature::{Nature, nature_of};
 pub use output::{put, write_failure};
-pub use remarks::{Coarser, Console, NoLines, OtherSeed, Remark};
+pub use remarks::{Coarser, Console, NoLines, OtherSeed, Remark, Skipped};

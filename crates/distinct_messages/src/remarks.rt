@@ -97,6 +97,27 @@ impl fmt::Display for NoLines<'_> {
     }
 }
 
+/// Lines of a file were skipped, since they have no number.
+#[derive(Clone, Copy, Debug)]
+pub struct Skipped<'a> {
+    /// The file's name, as it was given.
+    pub name: &'a str,
+    /// How many lines.
+    pub count: u64,
+}
+
+impl fmt::Display for Skipped<'_> {
+    fn fmt<W: fmt::Write>(&self, f: &mut fmt::Formatter<W>) -> fmt::Result {
+        let name = Escaped(display_name(self.name));
+        let count = self.count;
+        if count == 1 {
+            write!(f, "{name}: 1 line without a number was skipped")
+        } else {
+            write!(f, "{name}: {count} lines without a number were skipped")
+        }
+    }
+}
+
 /// A remark on an answer.
 #[derive(Clone, Copy, Debug)]
 pub enum Remark<'a> {
@@ -106,6 +127,8 @@ pub enum Remark<'a> {
     Coarser(Coarser<'a>),
     /// An image is of another seed.
     OtherSeed(OtherSeed<'a>),
+    /// Lines of a file were skipped.
+    Skipped(Skipped<'a>),
     /// The answer, an image, has an estimate.
     Estimated(Report),
     /// The answer, a number alone, is an estimate: for who reads it on a terminal.
@@ -127,6 +150,7 @@ impl fmt::Display for Remark<'_> {
                 )
             }
             Remark::OtherSeed(image) => write!(f, "{image}"),
+            Remark::Skipped(lines) => write!(f, "{lines}"),
             Remark::Estimated(report) | Remark::Rough(report) => {
                 let estimate = report.estimate;
                 let lower = report.interval.lower;

@@ -1,8 +1,8 @@
 -- The first line of a text, and the names in a line.
-use Rattle.std.proofs.Common.{◌≡◌, ℕ, suc, ◌+◌, true, false, cond, List, [], ◌∷◌, ◌++◌, append-nil, zero, length, length-append, take, take_all, le_refl, drop, Option, Some, None, refl, sym, ap, subst, ◌∙◌, arith, append_assoc}
+use Rattle.std.proofs.Common.{◌≡◌, ℕ, suc, ◌+◌, Bool, true, false, cond, List, [], ◌∷◌, ◌++◌, append-nil, zero, length, length-append, take, take_all, le_refl, drop, Option, Some, None, refl, sym, ap, subst, ◌∙◌, arith, append_assoc}
 use Rattle.std.specs.Option.{option_map}
 use Rattle.std.specs.Str.{bytes_eq}
-use Rattle.std.specs.Io.KnownBytes.{Keeps, Consumes, IsAtEnd}
+use Rattle.std.specs.Io.KnownBytes.{Keeps, Consumes, IsAtEnd, prepend_known}
 use Rattle.std.proofs.lemmas.Bool.{ne_eqb}
 use Rattle.std.proofs.lemmas.List.{take_at}
 use Rattle.std.proofs.lemmas.Option.{none-some, same_Some}
@@ -11,8 +11,8 @@ use Rattle.keys_lines.specs.Keys.{fields_of}
 use Rattle.keys_lines.proofs.Texts.{lines_after-line, lines_after-lacking, lines_whole}
 use Rattle.keys_lines.proofs.Fields.{one_field, ended_field}
 use Rattle.keys_fields.specs.Names.{place_of, place_in, first_of}
-use Rattle.keys_fields.specs.Mapping.{left_for, lines_for}
-use Rattle.keys_fields.proofs.Reading.{prepend_none}
+use Rattle.keys_fields.specs.Mapping.{count_after, count_of, left_for, lines_for}
+use Rattle.keys_fields.proofs.Reading.{count_more, prepend_none}
 
 -- ---- names
 
@@ -107,10 +107,16 @@ pub shown_whole : (text rest : Option (List ℕ)) (shown : List ℕ) (count : �
 shown_whole text rest shown count all read = subst (Consumes text rest) (ap (λ (n : ℕ). take n shown) all ∙ take_all (length shown) shown (le_refl _)) read
 
 -- the lines of a text of which nothing was read
-pub lines_left : (passed : List ℕ → Option (List ℕ)) (waiting begun : List ℕ) (text : Option (List ℕ)) (lines : List (List ℕ)) → waiting ≡ [] → begun ≡ [] → Has text lines → left_for passed waiting begun text ≡ lines_for passed lines
-lines_left passed waiting begun text lines none ended has =
-    ap (λ t. left_for passed waiting begun t) has.1 ∙ ap (λ w. left_for passed w begun (Some has.0)) none ∙ ap (λ b. left_for passed [] b (Some has.0)) ended
-    ∙ prepend_none (lines_for passed (lines_after [] has.0)) ∙ ap (lines_for passed) (lines_whole has.0 ∙ has.2)
+pub lines_left : (passed : List ℕ → Option (List ℕ)) (counted : List ℕ → Bool) (waiting : List ℕ) (count : ℕ) (begun : List ℕ) (text : Option (List ℕ)) (lines : List (List ℕ)) → waiting ≡ [] → begun ≡ [] → count ≡ 0 → Has text lines
+    → ((left_for passed counted waiting count begun text).0 ≡ lines_for passed lines) × ((left_for passed counted waiting count begun text).1 ≡ count_of counted lines)
+lines_left passed counted waiting count begun text lines none ended from_none has =
+    let whole : left_for passed counted waiting count begun text ≡ (prepend_known [] (lines_for passed lines), count_after counted 0 lines) =
+    ap (λ t. left_for passed counted waiting count begun t) has.1 ∙ ap (λ w. left_for passed counted w count begun (Some has.0)) none ∙ ap (λ b. left_for passed counted [] count b (Some has.0)) ended
+    ∙ ap (λ (n : ℕ). left_for passed counted [] n [] (Some has.0)) from_none ∙ ap left_of (lines_whole has.0 ∙ has.2) in
+    (ap (λ x. x.0) whole ∙ prepend_none (lines_for passed lines), ap (λ x. x.1) whole ∙ count_more counted 0 lines (omega arith) ∙ omega arith)
+  where
+    left_of : List (List ℕ) → Option (List ℕ) × ℕ
+    left_of ls = (prepend_known [] (lines_for passed ls), count_after counted 0 ls)
 
 -- ---- one byte
 

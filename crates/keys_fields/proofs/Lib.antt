@@ -4,3 +4,4 @@ pub mod Fitting
 pub mod Reading
 pub mod Giving
 pub mod Headers
+pub mod Numbers

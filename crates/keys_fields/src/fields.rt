@@ -2,7 +2,7 @@
 ghost use Rattle.std.specs.Prelude.{◌≡◌};
 ghost use Rattle.std.specs.Io.{ReadsAtMost};
 ghost use Rattle.std.specs.Io.KnownBytes.{ReadConsumes};
-ghost use Rattle.keys_fields.specs.Mapping.{fields_remaining};
+ghost use Rattle.keys_fields.specs.Mapping.{fields_remaining, left_out_of};
 
 use crate::mapped::Mapped;
 use keys_sketches::TextReader;
@@ -20,6 +20,18 @@ pub enum Fields<R> {
     Whole(R),
     /// Each line is passed on as another.
     Mapped(Mapped<R>),
+}
+
+impl<R: Read> Fields<R> {
+    /// How many lines are left out so far, since they add no number; 2^64 - 1 if there are more.
+    pub fn left_out(&self) -> u64
+        ensures { result ≡ left_out_of self.now }
+    {
+        match self {
+            Fields::Whole(_) => 0,
+            Fields::Mapped(mapped) => mapped.left_out(),
+        }
+    }
 }
 
 impl<R: Read> Read for Fields<R> {

@@ -2,7 +2,7 @@
 //!
 //! `Fields` reads each line of a text and passes on another: without a CR at its end, with one tab for each run of
 //! blanks, or the fields that make its key, its group and its number, by their numbers or by their names in the first
-//! line.
+//! line. It may leave out and count lines that have no number to add.
 //!
 //! ```
 //! let layout = Layout { separator: b'\t', blanks: false, returns: true };
@@ -16,9 +16,11 @@ mod ahead;
 mod chosen;
 mod fields;
 mod header;
+pub mod laws;
 mod layout;
 mod mapped;
 mod names;
+mod passing;
 
 pub use chosen::{BETWEEN, Chosen, PARTS, Part};
 pub use fields::Fields;

@@ -1,8 +1,8 @@
 //! What a line adds to the sum of its key, while the line is read in pieces.
 ghost use Rattle.std.specs.Prelude.{◌≡◌, ◌++◌, ◌∷◌, ◌==◌, not, ℕ, List, [], Some, length, IfSome};
-ghost use Rattle.keys_lines.specs.Keys.{line_hash};
+ghost use Rattle.keys_lines.specs.Keys.{key_of, line_hash};
 ghost use Rattle.keys_lines.specs.declared.key.Hashing.{Hashing};
-ghost use Rattle.keys_sums.specs.Amounts.{amount_in, value_in, IsEndedAddend, IsOpenAddend};
+ghost use Rattle.keys_sums.specs.Amounts.{amount_in, number_in, value_in, IsEndedAddend, IsOpenAddend};
 ghost use Rattle.keys_sums.specs.Parts.{IsStart};
 ghost use Rattle.keys_sums.specs.declared.addends.Amount.{Amount};
 ghost use Rattle.keys_sums.specs.declared.addends.Amount.TheVariants.{One};
@@ -38,6 +38,27 @@ pub(crate) fn whole_addend(hashing: Hashing, amount: Amount, line: &[u8]) -> Opt
         Amount::Number(key) => short_number(key_in(key, line))?,
     };
     Some((key_hash(hashing, line), value))
+}
+
+/// What a whole line adds; `None` if that is no number below 2^64.
+pub fn amount_of(amount: Amount, line: &[u8]) -> Option<u64>
+    ensures { result ≡ amount_in amount line.now }
+{
+    match amount {
+        Amount::One => Some(1),
+        Amount::Number(key) => number_of(key, line),
+    }
+}
+
+/// The number that a part of a whole line spells; `None` if that is no number below 2^64.
+fn number_of(key: Key, line: &[u8]) -> Option<u64>
+    ensures { result ≡ number_in (key_of key line.now) }
+{
+    if let Some(number) = short_number(key_in(key, line)) {
+        return Some(number);
+    }
+    let part: OpenPart<Digits> = OpenPart::new().with_bytes(key, line);
+    part.collected.number()
 }
 
 /// A line that has begun, which is to be added: the hash of its key, and the number in its part, so far; and how that part

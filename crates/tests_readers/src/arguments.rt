@@ -87,6 +87,7 @@ fn put_flags(text: &mut String, options: &Options<'_>) -> Result<(), AllocError>
         (" crlf", options.crlf),
         (" header", options.header),
         (" per_file", options.per_file),
+        (" skip_invalid", options.skip_invalid),
         (" keys", options.keys),
         (" progress", options.progress),
         (" human", options.human),
