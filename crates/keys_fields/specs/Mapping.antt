@@ -47,7 +47,9 @@ left_for passed counted waiting count begun (Some text) =
 -- what a reader has left, and the count of lines that it has left out behind that
 abbrev pub mapped_left : {R : Type 0} → (remaining : R → Option (List ℕ)) → Mapped R → Option (List ℕ) × ℕ
 mapped_left remaining mapped =
-    left_for (bytes_for mapped.passing) (is_left_out mapped.passing) (drop mapped.given mapped.waiting.items) mapped.left_out mapped.begun.items (ahead_remaining remaining mapped.ahead)
+    let waiting = drop mapped.given mapped.waiting.items in
+    let text = ahead_remaining remaining mapped.ahead in
+    left_for (bytes_for mapped.passing) (is_left_out mapped.passing) waiting mapped.left_out mapped.begun.items text
 
 -- the bytes that a reader has left, if they are known and can be passed on
 abbrev pub mapped_remaining : {R : Type 0} → (remaining : R → Option (List ℕ)) → Mapped R → Option (List ℕ)
