@@ -7,7 +7,7 @@ ghost use Rattle.keys_sums.specs.Parts.{IsStart};
 ghost use Rattle.keys_sums.specs.declared.addends.Amount.{Amount};
 ghost use Rattle.keys_sums.specs.declared.addends.Amount.TheVariants.{One};
 
-use crate::digits::{Digits, short_number};
+use crate::digits::{Digits, number_in, short_number};
 use crate::parts::{Collected, OpenPart};
 use crate::starts::ValueStart;
 use keys_lines::{Hashing, Key, OpenLine, key_hash, key_in};
@@ -38,6 +38,29 @@ pub(crate) fn whole_addend(hashing: Hashing, amount: Amount, line: &[u8]) -> Opt
         Amount::Number(key) => short_number(key_in(key, line))?,
     };
     Some((key_hash(hashing, line), value))
+}
+
+/// What a whole line adds; `None` if that is no number below 2^64.
+pub fn amount_in(amount: Amount, line: &[u8]) -> Option<u64>
+    ensures { result ≡ amount_in amount line.now }
+{
+    match amount {
+        Amount::One => Some(1),
+        Amount::Number(key) => number_in(key_in(key, line)),
+    }
+}
+
+/// How the part of a whole line starts that should be a number. It is empty if each line adds one.
+pub fn value_start(amount: Amount, line: &[u8]) -> ValueStart
+    ensures { IsStart (value_in amount line.now) result }
+{
+    match amount {
+        Amount::One => ValueStart::nothing(),
+        Amount::Number(key) => {
+            let start: OpenPart<ValueStart> = OpenPart::new();
+            start.with_bytes(key, line).collected
+        }
+    }
 }
 
 /// A line that has begun, which is to be added: the hash of its key, and the number in its part, so far; and how that part
