@@ -130,11 +130,18 @@ pub(crate) const OPTIONS: [Row; 35] = [
         Some("-f"),
         Kind::Columns,
         &["count", "sketch", "eval", "visits", "sum"],
-        &[(
-            &["eval"],
-            Rule::Needs(OptionName::Keys),
-            ": without it eval reads images",
-        )],
+        &[
+            (
+                &["eval"],
+                Rule::Needs(OptionName::Keys),
+                ": without it eval reads images",
+            ),
+            (
+                &["sum"],
+                Rule::Excludes(OptionName::By),
+                ": no keys are counted by groups",
+            ),
+        ],
     ),
     (
         OptionName::Separator,
@@ -318,7 +325,7 @@ pub(crate) const OPTIONS: [Row; 35] = [
                 ": a line adds either its number or 1",
             ),
             (
-                ALL,
+                &["sketch"],
                 Rule::Excludes(OptionName::By),
                 ": run sketch once per group",
             ),
@@ -487,7 +494,7 @@ pub(crate) const OPTIONS: [Row; 35] = [
         "--by",
         None,
         Kind::Columns,
-        &["count", "sketch"],
+        &["count", "sketch", "sum"],
         &[(&["sketch"], Rule::NeedsOutput, "")],
     ),
     (
@@ -528,24 +535,33 @@ pub(crate) const OPTIONS: [Row; 35] = [
         "--sort",
         None,
         Kind::Order,
-        &["count"],
-        &[(ALL, Rule::NeedsGroups, "")],
+        &["count", "sum"],
+        &[
+            (&["count"], Rule::NeedsGroups, ""),
+            (&["sum"], Rule::Needs(OptionName::By), ""),
+        ],
     ),
     (
         OptionName::Min,
         "--min",
         None,
         Kind::Number(1, u64::MAX),
-        &["count"],
-        &[(ALL, Rule::NeedsGroups, "")],
+        &["count", "sum"],
+        &[
+            (&["count"], Rule::NeedsGroups, ""),
+            (&["sum"], Rule::Needs(OptionName::By), ""),
+        ],
     ),
     (
         OptionName::Top,
         "--top",
         None,
         Kind::Number(1, u64::MAX),
-        &["count"],
-        &[(ALL, Rule::NeedsGroups, "")],
+        &["count", "sum"],
+        &[
+            (&["count"], Rule::NeedsGroups, ""),
+            (&["sum"], Rule::Needs(OptionName::By), ""),
+        ],
     ),
     (
         OptionName::Progress,
