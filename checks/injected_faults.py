@@ -355,6 +355,7 @@ READING = (
     "visits_of_images_in_hexadecimal",
     "sum_of_a_field",
     "sum_of_listed_files",
+    "sum_by_a_field_the_greatest_first",
     "sum_without_invalid_lines_in_silence",
     "union_of_images",
     "union_of_lines",

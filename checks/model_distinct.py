@@ -37,7 +37,7 @@ OPTIONS = {
     "visits": LINES + "--sums --hex --bounds --tsv --json",
     "similarity": "-C --seed --seed-file --hex --bounds --tsv --json",
     "matrix": "-C --seed --seed-file --files0-from --hex --bounds --tsv --json",
-    "sum": LINES + "--value --skip-invalid --tsv --json",
+    "sum": LINES + "--value --skip-invalid --by --sort --min --top --tsv --json",
 }
 OPTIONS = {command: f"{options} --quiet" + " --error" * (command in ("count", "sketch", "visits", "sum")) for command, options in OPTIONS.items()}
 FLAGS = ("--hex", "--groups", "--sums", "--visits", "--progress", "--keys", "--force", "--quiet", "--human", "--csv", "--blanks", "--crlf", "--header", "--per-file", "--skip-invalid")
@@ -162,17 +162,33 @@ def number_in(text):
     return int(text) if re.fullmatch(rb"[0-9]+", text) and int(text) <= M64 else None
 
 
+def value_of(line, name, number, options):
+    """The value of the line of this number in the text of this name."""
+    value = key_of(line, options["--value"], options["--separator"])
+    if number_in(value) is None:
+        found = f'its value "{quoted(value)}"' + ("" if options["texts"] else f' in field {options["--value"]}')
+        raise Failure(f"{escaped(called(name))}: line {number}: {found} is not a whole number up to {M64}: check --value and --separator")
+    return int(value)
+
+
+def totals_of(texts, options):
+    """The name and the total of each group of the lines of texts, each with its name, in ascending order."""
+    totals = {}
+    for name, text in texts:
+        for number, line in enumerate(lines_of(text), 1):
+            group = key_of(line, options["--by"], options["--separator"])
+            totals[group] = min(totals.get(group, 0) + value_of(line, name, number, options), 2**128 - 1)
+    return sorted(totals.items())
+
+
 def sums_of(texts, options, seed):
     """The sketch of the lines of texts, each with its name, with the values of each of its hashes combined by --summary; of 1 without --value."""
     sums, combine = {}, MODES[options.get("--summary", "sum")]
     for name, text in texts:
         for number, line in enumerate(lines_of(text), 1):
-            value = key_of(line, options["--value"], options["--separator"]) if options.get("--value") else b"1"
-            if number_in(value) is None:
-                found = f'its value "{quoted(value)}"' + ("" if options["texts"] else f' in field {options["--value"]}')
-                raise Failure(f"{escaped(called(name))}: line {number}: {found} is not a whole number up to {M64}: check --value and --separator")
+            value = value_of(line, name, number, options) if options.get("--value") else 1
             key = murmur(key_of(line, options["--field"], options["--separator"]), seed) >> 1
-            sums[key] = combine(sums[key], int(value)) if key in sums else int(value)
+            sums[key] = combine(sums[key], value) if key in sums else value
             if sums[key] > M64:
                 raise Failure(f"{escaped(called(name))}: line {number}: the sum of its key is above {M64}")
     sketch = sketch_of([text for _, text in texts], options, seed)
@@ -644,8 +660,8 @@ def set_option(command, options, words):
             raise Fault("no part")
     if option == "--summary" and value not in MODES:
         raise Fault("another mode than sum, min and max")
-    if option == "--sort" and value not in ("name", "estimate"):
-        raise Fault("another order than name and estimate")
+    if option == "--sort" and value not in ("name", "estimate", "total"):
+        raise Fault("another order than name, estimate and total")
     if option in ("--seed", "--seed-file"):
         options["seed"] = option, value if option == "--seed-file" else number_of(option, value)
     elif option == "--error":
@@ -766,6 +782,8 @@ def read_arguments(words):
         raise Fault("--field without --keys")
     if command == "sum" and "--value" not in options:
         raise Fault("sum without --value")
+    if command == "sum" and {"--field", "--by"} <= options.keys():
+        raise Fault("sum --by with --field")
     if "--separator" in options and not {"--field", "--by", "--value", "--csv"} & options.keys():
         raise Fault("--separator without --field, --by, --value and --csv")
     for option in ("--csv", "--blanks", "--crlf", "--header"):
@@ -821,6 +839,9 @@ def read_arguments(words):
     options["texts"] = any(f"{it} text" in options for it in COLUMNS)
     for option in ("--field", "--by", "--value", "--blanks", "--crlf", "--header", "--sort", "--min", "--top", "--bounds", "--hex", "--groups", "--sums", "--keys", "--output", "--output-dir", "--expect", "--part", "--csv"):
         options.setdefault(option)
+    if command == "sum" and options["--by"]:
+        # Keys are not used: the group is read in their place.
+        options |= {it.replace("--by", "--field"): options[it] for it in ("--by", "--by text") if it in options}
     options["between fields"] = options.get("--separator", ",").encode()
     options["--separator"] = b"\x1f" if options["--csv"] else options.get("--separator", "\t").encode()
     options["chosen"] = [options.get(f"{it} text", options[it]) for it in COLUMNS]
@@ -1132,10 +1153,23 @@ def file_of(folder, name):
 def printed_counts(rows, options):
     """What `count` prints of the names and the sketches of groups."""
     reports = [(name, report_of(it, options["--bounds"] or 2)) for name, it in rows]
-    if options["--sort"] == "estimate":
+    if options["--sort"] in ("estimate", "total"):
         reports.sort(key=lambda row: -row[1]["estimate"])
     reports = [row for row in reports if row[1]["estimate"] >= (options["--min"] or 0)][: options["--top"]]
     return printed_groups(reports, options)
+
+
+def printed_totals(totals, options):
+    """What `sum --by` prints of the totals of groups, by their names in ascending order."""
+    rows = [row for row in totals if row[1] >= (options["--min"] or 0)]
+    if options["--sort"] in ("estimate", "total"):
+        rows.sort(key=lambda row: -row[1])
+    rows = rows[: options["--top"]]
+    if options["form"] == "--json":
+        return "".join(f'{{"name":{json_string(name)},"total":{total}}}\n' for name, total in rows).encode()
+    if options["form"]:
+        return ("name\ttotal\n" + "".join(f"{shown_name(name)}\t{total}\n" for name, total in rows)).encode()
+    return b"".join(b"%b\t%d\n" % row for row in rows)
 
 
 def united_groups(files, names, options, own_hash, messages):
@@ -1168,14 +1202,16 @@ def joined_groups(command, files):
 
 
 def summed(files, names, options, seed, messages):
-    """The texts of files, each with its name, and the sketch of their sums. A file that fails isn't read to its end, nor any behind it."""
+    """The texts of files, each with its name, and the sketch of their sums, or the totals of their groups. A file that fails isn't read
+    to its end, nor any behind it."""
     texts = []
+    add = (lambda: totals_of(texts, options)) if options["--by"] else (lambda: sums_of(texts, options, seed))
     try:
         for name in names:
             before = len(messages)
             texts.append((name, text_of(files, name)))
-            sums_of(texts, options, seed)
-        return texts, sums_of(texts, options, seed)
+            add()
+        return texts, add()
     except Failure:
         del messages[before:]
         raise
@@ -1235,6 +1271,8 @@ def run(words, files, messages):
         return printed_ranges(ranges_of(sketch, counts, options["--bounds"] or 2), options).encode()
     if command == "sum":
         texts, sketch = summed(files, names, options, seed, messages)
+        if options["--by"]:
+            return printed_totals(sketch, options)
         values = (key_of(line, options["--value"], options["--separator"]) for _, text in texts for line in lines_of(text))
         return printed_total(sketch, options, sum(int(it) for it in values)).encode()
     if command == "sketch" and (options.get("--value") or options.get("--visits")):

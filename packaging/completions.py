@@ -11,14 +11,18 @@ def short(meaning):
 
 def bash(help_text):
     """For bash. A value may be the next word, or follow =, which bash makes a word of its own."""
-    cases, values = "", {}
+    cases, values, found = "", {}, {}
     for command in help_text.commands:
         flags = [it for option in command.options for it in (option.short, option.flag + ("=" if option.form == "behind" else "")) if it]
         cases += f"        {command.name}) options='{' '.join([*flags, '--help'])}' ;;\n"
         for it in command.options:
             if it.value:
                 mark = "=" if it.form in ("behind", "optional") else "*"
-                values.setdefault((bash_answer(it), mark), set()).update(flag for flag in (it.short, it.flag) if flag)
+                for flag in (it.short, it.flag):
+                    found.setdefault((flag, mark), []).append(it)
+    for (flag, mark), options in found.items():
+        if flag:
+            values.setdefault((bash_answer(options), mark), set()).add(flag)
     rows = ""
     for (answer, mark), flags in sorted(values.items()):
         patterns = " | ".join(f"{flag}:{mark}" for flag in sorted(flags))
@@ -54,11 +58,12 @@ complete -F _distinct distinct
 """
 
 
-def bash_answer(option):
-    """The line that answers with an option's values."""
-    if option.value in ("FILE", "DIR"):
-        return f'compopt -o filenames; COMPREPLY=($(compgen -{"f" if option.value == "FILE" else "d"} -- "$cur"))'
-    return f"COMPREPLY=($(compgen -W '{' '.join(option.choices)}' -- \"$cur\"))" if option.choices else ":"
+def bash_answer(options):
+    """The line that answers with the values of an option, those of all commands that have it."""
+    if options[0].value in ("FILE", "DIR"):
+        return f'compopt -o filenames; COMPREPLY=($(compgen -{"f" if options[0].value == "FILE" else "d"} -- "$cur"))'
+    choices = list(dict.fromkeys(choice for option in options for choice in option.choices))
+    return f"COMPREPLY=($(compgen -W '{' '.join(choices)}' -- \"$cur\"))" if choices else ":"
 
 
 def fish(help_text):

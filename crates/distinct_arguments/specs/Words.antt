@@ -13,7 +13,7 @@ use Rattle.distinct_arguments.specs.declared.commands.Command.{Command}
 use Rattle.distinct_arguments.specs.declared.commands.Command.TheVariants.{Count, Sketch, Combine, Show, Eval}
 use Rattle.distinct_arguments.specs.declared.commands.Command.TheVariants.{Visits, Sum, Similarity, Matrix}
 use Rattle.distinct_arguments.specs.declared.options.Order.{Order}
-use Rattle.distinct_arguments.specs.declared.options.Order.TheVariants.{Name, Estimate}
+use Rattle.distinct_arguments.specs.declared.options.Order.TheVariants.{Name, Greatest}
 use Rattle.distinct_arguments.specs.declared.options.Mode.{Mode}
 use Rattle.distinct_arguments.specs.declared.options.Mode.TheVariants as mode
 
@@ -113,11 +113,12 @@ deviations_of word =
     if bytes_eq word (codes "2") then Some Two else
     if bytes_eq word (codes "3") then Some Three else None
 
--- the order of groups that a word names
+-- the order of groups that a word names: by name, or by the number that is printed of each
 abbrev pub order_of : List ℕ → Option Order
 order_of word =
     if bytes_eq word (codes "name") then Some Name else
-    if bytes_eq word (codes "estimate") then Some Estimate else None
+    if bytes_eq word (codes "estimate") then Some Greatest else
+    if bytes_eq word (codes "total") then Some Greatest else None
 
 -- the way to combine the numbers of a key that a word names
 abbrev pub mode_of : List ℕ → Option Mode

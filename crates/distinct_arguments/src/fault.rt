@@ -123,7 +123,7 @@ impl fmt::Display for Kind {
             Kind::Byte => write!(f, "one byte"),
             Kind::Seed => write!(f, "a number from 0 to {}", u64::MAX),
             Kind::Deviations => write!(f, "1, 2 or 3, as in --bounds=2"),
-            Kind::Order => write!(f, "name or estimate"),
+            Kind::Order => write!(f, "name, estimate or total"),
             Kind::Mode => write!(f, "sum, min or max"),
             Kind::Percent => write!(
                 f,

@@ -366,12 +366,12 @@ Examples:
 
 const SUM: &str = "\
 distinct sum --value M [OPTION..] [FILE..]: prints the exact total of the numbers in field M of
-all lines; with --tsv and --json also how many distinct keys they have
+all lines, or of each group of lines; with --tsv and --json also how many distinct keys all have
 
 Read:
   -f, --field N           use field N as a line's key, counted from 1 as in cut -f N, or 1,3,
                           names in the first line of each file, or 1:13 (see count --help);
-                          default the line
+                          default the line. Not with --by
   -d, --separator C       the byte between fields; default a tab
       --csv               the files have records of CSV (RFC 4180), not lines: a field between
                           quotes may have separators, quotes and line ends in it, but none of the
@@ -397,16 +397,26 @@ Count:
                           as 0.4%. P is from 0.0123 to 100. Of --lg-k and --error the last counts
       --seed N            the seed of the hashes, from 0 to 2^64 - 1; default 9001
       --seed-file FILE    read the seed from FILE, which keeps it out of the process list
+      --by N              add up each group of lines that have the same field N, as for --field.
+                          Print a line per group, in ascending order: its name, a tab, its total.
+                          Keys are not counted then: --lg-k, --error and --seed change nothing
 
 Print:
       --progress          about once a second, report the lines and bytes read on standard error.
-                          Not with --csv, --blanks, --crlf, --header or --skip-invalid
+                          Not with --by, --csv, --blanks, --crlf, --header or --skip-invalid
+      --sort ORDER        with --by, the order of groups: name, the default, or total, the
+                          greatest first and equal ones by name
+      --min N             with --by, print only groups whose total is at least N; N from 1 to
+                          2^64 - 1
+      --top N             with --by, print only the first N groups, in the order of --sort, of
+                          those that --min leaves; N from 1 to 2^64 - 1
       --tsv               print values separated by tabs, under a line of their names
-      --json              print a JSON object
+      --json              print a JSON object, with --by one per group, each on a line
   -q, --quiet             print no remarks and warnings on standard error
 
 Examples:
   distinct sum -f2 --value 3 spent.txt          what all users spent together
+  distinct sum --by 2 --value 3 spent.txt       what each user spent
   distinct sum --value 2 -d, --json prices.csv  of a file with commas, as JSON
 ";
 

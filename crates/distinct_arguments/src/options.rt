@@ -26,8 +26,8 @@ pub enum Form {
 pub enum Order {
     /// In the ascending order of the bytes of their names.
     Name,
-    /// Those of the greatest estimate first, and those of equal estimates by name.
-    Estimate,
+    /// Those of the greatest estimate or total first, and those of equal ones by name.
+    Greatest,
 }
 
 /// How the numbers of a key are combined.
@@ -79,7 +79,7 @@ pub struct Options<'a> {
     pub by_text: Option<&'a str>,
     /// The order in which groups are printed; by name if `None`.
     pub sort: Option<Order>,
-    /// The least estimate of a group that is printed, from 1 if it was read from arguments; none if `None`.
+    /// The least estimate or total of a group that is printed, from 1 if it was read from arguments; none if `None`.
     pub least: Option<u64>,
     /// How many groups are printed at most, from 1 if it was read from arguments; all if `None`.
     pub most: Option<u64>,

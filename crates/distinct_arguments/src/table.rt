@@ -131,11 +131,18 @@ pub(crate) const OPTIONS: [Row; 36] = [
         Some("-f"),
         Kind::Columns,
         &["count", "sketch", "eval", "visits", "sum"],
-        &[(
-            &["eval"],
-            Rule::Needs(OptionName::Keys),
-            ": without it eval reads images",
-        )],
+        &[
+            (
+                &["eval"],
+                Rule::Needs(OptionName::Keys),
+                ": without it eval reads images",
+            ),
+            (
+                &["sum"],
+                Rule::Excludes(OptionName::By),
+                ": no keys are counted by groups",
+            ),
+        ],
     ),
     (
         OptionName::Separator,
@@ -319,7 +326,7 @@ pub(crate) const OPTIONS: [Row; 36] = [
                 ": a line adds either its number or 1",
             ),
             (
-                ALL,
+                &["sketch"],
                 Rule::Excludes(OptionName::By),
                 ": run sketch once per group",
             ),
@@ -490,7 +497,7 @@ pub(crate) const OPTIONS: [Row; 36] = [
         "--by",
         None,
         Kind::Columns,
-        &["count", "sketch"],
+        &["count", "sketch", "sum"],
         &[(&["sketch"], Rule::NeedsOutput, "")],
     ),
     (
@@ -531,24 +538,33 @@ pub(crate) const OPTIONS: [Row; 36] = [
         "--sort",
         None,
         Kind::Order,
-        &["count"],
-        &[(ALL, Rule::NeedsGroups, "")],
+        &["count", "sum"],
+        &[
+            (&["count"], Rule::NeedsGroups, ""),
+            (&["sum"], Rule::Needs(OptionName::By), ""),
+        ],
     ),
     (
         OptionName::Min,
         "--min",
         None,
         Kind::Number(1, u64::MAX),
-        &["count"],
-        &[(ALL, Rule::NeedsGroups, "")],
+        &["count", "sum"],
+        &[
+            (&["count"], Rule::NeedsGroups, ""),
+            (&["sum"], Rule::Needs(OptionName::By), ""),
+        ],
     ),
     (
         OptionName::Top,
         "--top",
         None,
         Kind::Number(1, u64::MAX),
-        &["count"],
-        &[(ALL, Rule::NeedsGroups, "")],
+        &["count", "sum"],
+        &[
+            (&["count"], Rule::NeedsGroups, ""),
+            (&["sum"], Rule::Needs(OptionName::By), ""),
+        ],
     ),
     (
         OptionName::Progress,
@@ -566,6 +582,11 @@ pub(crate) const OPTIONS: [Row; 36] = [
                 &["visits"],
                 Rule::Excludes(OptionName::Sums),
                 ": images are no lines",
+            ),
+            (
+                &["sum"],
+                Rule::Excludes(OptionName::By),
+                ": drop --progress",
             ),
         ],
     ),

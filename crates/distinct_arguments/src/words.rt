@@ -209,7 +209,8 @@ pub(crate) fn order_of(word: &str) -> Option<Order>
 {
     match word {
         "name" => Some(Order::Name),
-        "estimate" => Some(Order::Estimate),
+        "estimate" => Some(Order::Greatest),
+        "total" => Some(Order::Greatest),
         _ => None,
     }
 }

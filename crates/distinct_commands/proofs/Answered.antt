@@ -25,7 +25,10 @@ use Rattle.keys_groups.specs.Groups.{AreGroups, group_sketch}
 use Rattle.distinct_inputs.specs.Images.{in_form}
 use Rattle.distinct_arguments.specs.Settings.{OptionValues, chosen_value}
 use Rattle.distinct_arguments.specs.declared.fault.Fault.TheVariants.{SumNeedsValue}
-use Rattle.distinct_inputs.specs.Failures.{chosen_summary, IsOfSums, IsOfTotal, IsOfTotalOf}
+use Rattle.distinct_inputs.specs.Failures.{chosen_summary, IsOfGroupTotals, IsOfGroupTotalsOf, IsOfNumbers, IsOfSums, IsOfTotal, IsOfTotalOf}
+use Rattle.keys_totals.specs.Totals.{group_total, HasTotals, ListsTotals}
+use Rattle.keys_totals.specs.declared.grouped.GroupTotals.{GroupTotals}
+use Rattle.distinct_commands.specs.SumGroups.{IsGroupTotals, IsTotalsText}
 use Rattle.distinct_messages.specs.declared.failure.Failure.{Failure}
 use Rattle.distinct_messages.specs.declared.failure.Failure.TheVariants.{Arguments}
 
@@ -100,3 +103,21 @@ lacks_value options seed texts (Some field) is none = absurd (none field refl)
 -- lines are not summed by the field that has them
 pub not_summed : (options : OptionValues) (seed : ℕ) (texts : Option (List (List ℕ))) (field : Key) (f : Failure) → chosen_value options ≡ Some field → IsOfSums Sum options seed (Number field) texts f → IsOfTotal options seed texts f
 not_summed options seed texts field f is failed = subst (λ (value : Option Key). IsOfTotalOf value options seed texts f) (sym is) failed
+
+-- ---- totals by groups
+
+-- the lines of the groups of texts, by the part of a line that has its number
+pub totalled : (known : Option (List (List ℕ))) (by field : Key) (value : Option Key) (options : OptionValues) (totals : GroupTotals) (out : List ℕ) → value ≡ Some field → IfSome known (λ texts. HasTotals by (Number field) (lines_of_all texts) totals) →
+    IfSome known (λ texts. AreNumbers (Number field) (lines_of_all texts)) → ((total : List ℕ → ℕ) (names : List (List ℕ)) → ListsTotals total names totals → IsTotalsText options total names out) → IfSome known (λ texts. IsGroupTotals value by options texts out)
+totalled None by field value options totals out is has numbers text = tt
+totalled (Some texts) by field value options totals out is has numbers text =
+    subst (λ (v : Option Key). IsGroupTotals v by options texts out) (sym is) (numbers, has.0, has.1, text (group_total by (Number field) (lines_of_all texts)) has.0 has.2)
+
+-- no field has the numbers
+pub lacks_value_by : (options : OptionValues) (texts : Option (List (List ℕ))) (value : Option Key) → value ≡ chosen_value options → ((field : Key) → value ≡ Some field → ⊥) → IsOfGroupTotals options texts (Arguments SumNeedsValue)
+lacks_value_by options texts None is none = subst (λ (value : Option Key). IsOfGroupTotalsOf value options texts (Arguments SumNeedsValue)) is (unmapped _ options.value (sym is))
+lacks_value_by options texts (Some field) is none = absurd (none field refl)
+
+-- a line has no number in the field that has them
+pub not_totalled : (options : OptionValues) (texts : Option (List (List ℕ))) (field : Key) (f : Failure) → chosen_value options ≡ Some field → IsOfNumbers (Number field) texts f → IsOfGroupTotals options texts f
+not_totalled options texts field f is failed = subst (λ (value : Option Key). IsOfGroupTotalsOf value options texts f) (sym is) failed

@@ -14,18 +14,18 @@ module _ (p : List ℕ → Bool) where
   pub name_dropped : (names others : List (List ℕ)) (name : List ℕ) → names ≡ name ∷ others → p name ≡ false → filter p names ≡ filter p others
   name_dropped names others name parted dropped = ap (filter p) parted ∙ ap (λ b. cond b (name ∷ filter p others) (filter p others)) dropped
 
--- groups, each with its estimate and its text
-module _ (estimate : List ℕ → ℕ) (text : List ℕ → List ℕ) where
+-- groups, each with its number and its text
+module _ (number : List ℕ → ℕ) (text : List ℕ → List ℕ) where
   abbrev IsOfName : Ranked → Type 0
-  IsOfName group = (group.estimate ≡ estimate group.name.items) × (group.text.items ≡ text group.name.items)
+  IsOfName group = (group.number ≡ number group.name.items) × (group.text.items ≡ text group.name.items)
 
-  pub none_has_texts : HasTexts estimate text [] []
+  pub none_has_texts : HasTexts number text [] []
   none_has_texts = (refl, All-nil IsOfName)
 
   -- one group more
-  pub group_added : (names : List (List ℕ)) (groups : List Ranked) (group : Ranked) (name : List ℕ) → HasTexts estimate text names groups → group.name.items ≡ name → group.estimate ≡ estimate name → group.text.items ≡ text name →
-      HasTexts estimate text (names ++ name ∷ []) (groups ++ group ∷ [])
+  pub group_added : (names : List (List ℕ)) (groups : List Ranked) (group : Ranked) (name : List ℕ) → HasTexts number text names groups → group.name.items ≡ name → group.number ≡ number name → group.text.items ≡ text name →
+      HasTexts number text (names ++ name ∷ []) (groups ++ group ∷ [])
   group_added names groups group name has named estimated printed = (
     ap (λ ns. ns ++ name ∷ []) has.0 ∙ ap (λ n. map (λ g. g.name.items) groups ++ n ∷ []) (sym named) ∙ sym (map-append (λ g. g.name.items) groups (group ∷ [])),
-    All-push IsOfName groups group has.1 (estimated ∙ ap estimate (sym named), printed ∙ ap text (sym named)),
+    All-push IsOfName groups group has.1 (estimated ∙ ap number (sym named), printed ∙ ap text (sym named)),
   )

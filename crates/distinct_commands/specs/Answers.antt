@@ -10,7 +10,7 @@ use Rattle.keys_sketches.specs.Shards.{AreRead}
 use Rattle.keys_sketches.specs.Unions.{IsUnitedImage, UnitesTexts}
 use Rattle.keys_sums.specs.Unions.{IsUnitedSumsImage, UnitesSumsOfTexts}
 use Rattle.keys_sums.specs.declared.addends.Amount.{Amount}
-use Rattle.distinct_arguments.specs.Settings.{OptionValues, chosen_group, chosen_value}
+use Rattle.distinct_arguments.specs.Settings.{OptionValues, chosen_group}
 use Rattle.keys_groups.specs.United.{IsUnitedText}
 use Rattle.distinct_arguments.specs.Arguments.{Action, prints, runs, fails}
 use Rattle.distinct_arguments.specs.Texts.{text_of}
@@ -25,7 +25,8 @@ use Rattle.keys_lines.specs.declared.key.Key.{Key}
 use Rattle.distinct_commands.specs.Texts.{count_text, file_count_text, head_of}
 use Rattle.distinct_messages.specs.Failures.{display_name}
 use Rattle.distinct_commands.specs.Showing.{IsShownOf}
-use Rattle.distinct_commands.specs.Sums.{IsSumsText, IsTotalText}
+use Rattle.distinct_commands.specs.Sums.{IsSumsText}
+use Rattle.distinct_commands.specs.SumGroups.{IsSumText}
 use Rattle.distinct_commands.specs.Visits.{IsVisitsText}
 use Rattle.distinct_commands.specs.Similarity.{IsComparedOf}
 use Rattle.distinct_commands.specs.Matrix.{IsMatrixOf}
@@ -142,7 +143,7 @@ IsWholeAnswer (Combine operator) options seed names texts out = IsCombinedText o
 IsWholeAnswer Show options seed names texts out = ⊥
 IsWholeAnswer Eval options seed names texts out = IsEvaluatedOf options seed names texts out
 IsWholeAnswer Visits options seed names texts out = IsVisitsText options.sums options seed texts out
-IsWholeAnswer Sum options seed names texts out = IsTotalText (chosen_value options) options seed texts out
+IsWholeAnswer Sum options seed names texts out = IsSumText (chosen_group options) options seed texts out
 IsWholeAnswer Similarity options seed names texts out = IsComparedOf options seed texts out
 IsWholeAnswer Matrix options seed names texts out = IsMatrixOf options seed names texts out
 

@@ -11,7 +11,7 @@ use Rattle.expression_text.specs.declared.operator.Step.{Step}
 use Rattle.expression_evaluation.specs.Values.{sum_rules}
 use Rattle.expression_evaluation.specs.Running.{sums_values, MayRefuse}
 use Rattle.distinct_arguments.specs.Arguments.{Action, prints, runs, fails}
-use Rattle.distinct_arguments.specs.Settings.{OptionValues}
+use Rattle.distinct_arguments.specs.Settings.{OptionValues, chosen_group}
 use Rattle.distinct_arguments.specs.declared.commands.Command.{Command}
 use Rattle.distinct_arguments.specs.declared.commands.Command.TheVariants.{Count, Sketch, Combine, Show, Eval}
 use Rattle.distinct_arguments.specs.declared.commands.Command.TheVariants.{Visits, Sum, Similarity, Matrix}
@@ -22,7 +22,7 @@ use Rattle.keys_groups.specs.declared.united.LineFlaw.TheVariants.{NoTab as NoTa
 use Rattle.keys_joins.specs.Reading.{HasFlawedIn}
 use Rattle.distinct_inputs.specs.Failures.{AreNotTwo, chosen_summary, images_in, IsOfReading, IsOfImages, IsOfSketch}
 use Rattle.distinct_messages.specs.Failures.{IsOfWriting}
-use Rattle.distinct_inputs.specs.Failures.{IsOfCombining, IsOfGroups, IsOfVisits, IsOfTotal}
+use Rattle.distinct_inputs.specs.Failures.{IsOfCombining, IsOfGroups, IsOfSum, IsOfVisits}
 use Rattle.distinct_inputs.specs.Images.{images_of}
 use Rattle.distinct_inputs.specs.Lists.{IsFirstUnnamed}
 use Rattle.distinct_messages.specs.declared.failure.Failure.{Failure}
@@ -161,7 +161,7 @@ IsOfCommand (Combine operator) options seed count texts failure =
 IsOfCommand Show options seed count texts failure = OrNoFiles (count ≡ 0) (IsOfShow options.groups seed texts) failure
 IsOfCommand Eval options seed count texts failure = ⊥
 IsOfCommand Visits options seed count texts failure = OrNoFiles ((count ≡ 0) × (options.sums ≡ true)) (IsOfVisits options seed texts) failure
-IsOfCommand Sum options seed count texts failure = IsOfTotal options seed texts failure
+IsOfCommand Sum options seed count texts failure = IsOfSum (chosen_group options) options seed texts failure
 IsOfCommand Similarity options seed count texts failure = IsOfPair options seed count texts failure
 IsOfCommand Matrix options seed count texts failure = IsOfPairs options seed count texts failure
 

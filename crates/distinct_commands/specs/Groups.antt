@@ -1,6 +1,5 @@
 -- What is printed or written of groups.
 use Rattle.std.specs.Prelude.{ℕ, ◌≡◌, ◌++◌, List, [], ◌∷◌, Option, Some, None, unwrap_or, codes, flat_map}
-use Rattle.std.specs.List.{filter}
 use Rattle.std.specs.Str.Lossy.{utf8_lossy}
 use Rattle.core_compact.specs.CompactState.{Compact}
 use Rattle.theta_sketches.specs.Image.{written}
@@ -14,13 +13,13 @@ use Rattle.keys_groups.specs.declared.groups.Group.{Group}
 use Rattle.keys_groups.specs.declared.groups.Grouping.{Grouping}
 use Rattle.distinct_arguments.specs.Settings.{OptionValues}
 use Rattle.distinct_arguments.specs.declared.options.Order.{Order}
-use Rattle.distinct_arguments.specs.declared.options.Order.TheVariants.{Name, Estimate}
+use Rattle.distinct_arguments.specs.declared.options.Order.TheVariants.{Name, Greatest}
 use Rattle.distinct_arguments.specs.declared.options.Form.{Form}
 use Rattle.distinct_arguments.specs.declared.options.Form.TheVariants.{Plain, Tsv, Json}
 use Rattle.distinct_inputs.specs.Failures.{chosen_hashing}
 use Rattle.distinct_commands.specs.declared.groups.Listing.{Listing}
 use Rattle.distinct_commands.specs.declared.groups.Listing.TheVariants.{Counts, Images, Shown}
-use Rattle.distinct_commands.specs.Ranked.{AreRanked, reaches, first_items}
+use Rattle.distinct_commands.specs.Ranked.{AreRanked, reaching, first_items}
 use Rattle.distinct_commands.specs.Texts.{counted_line, report_by, head_of}
 
 -- how options group lines by a key
@@ -66,7 +65,7 @@ group_estimate options sketch name = (report_by options (sketch name)).estimate
 
 -- the names of the groups that are counted: those whose estimate is at least that of `--min`, if there is one
 abbrev pub counted_names : OptionValues → (sketch : List ℕ → Compact ℕ) → (names : List (List ℕ)) → List (List ℕ)
-counted_names options sketch names = filter (λ name. reaches options.least (group_estimate options sketch name)) names
+counted_names options sketch names = reaching options.least (group_estimate options sketch) names
 
 -- the first group of those that were left and are counted, and the others that are counted are left now; there is none
 -- only if none was left
@@ -83,10 +82,10 @@ IsNextCounted lists options sketch names new (Some group) =
 abbrev pub chosen_order : OptionValues → Order
 chosen_order options = unwrap_or options.sort Name
 
--- these names are in this order: by their estimates, or as they were, which is the order of their bytes
-abbrev pub AreOrdered : Order → (estimate : List ℕ → ℕ) → (names ordered : List (List ℕ)) → Type 0
-AreOrdered Estimate estimate names ordered = AreRanked estimate names ordered
-AreOrdered Name estimate names ordered = ordered ≡ names
+-- these names are in this order: by their numbers, or as they were, which is the order of their bytes
+abbrev pub AreOrdered : Order → (number : List ℕ → ℕ) → (names ordered : List (List ℕ)) → Type 0
+AreOrdered Greatest number names ordered = AreRanked number names ordered
+AreOrdered Name number names ordered = ordered ≡ names
 
 -- What is printed of the groups of these names and sketches, after the head: those that are counted are put into the order
 -- that is chosen, and each of the first ones, as many as `--top` says, or of all has a line.

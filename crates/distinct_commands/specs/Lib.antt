@@ -6,6 +6,7 @@ pub mod Visits
 pub mod Sums
 pub mod Ranked
 pub mod Groups
+pub mod SumGroups
 pub mod Similarity
 pub mod Matrix
 pub mod Answers

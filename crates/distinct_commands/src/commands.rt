@@ -308,7 +308,7 @@ impl<'a, S: Sources + Drop> Job<'a, S> {
                 }
                 self.visit_inputs(console)
             }
-            Command::Sum => self.sum_inputs(console),
+            Command::Sum => self.sum_lines(console),
             Command::Similarity => self.compare_inputs(files.len()),
             Command::Matrix => self.compare_each(files),
         }

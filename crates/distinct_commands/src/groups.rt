@@ -17,7 +17,7 @@ ghost use Rattle.distinct_messages.specs.declared.failure.Failure.TheVariants as
 
 use crate::commands::image_to_put;
 use crate::job::Job;
-use crate::ranked::{Ranked, first_ranked_text, is_full, one_less};
+use crate::ranked::{Ranked, first_ranked_text, is_full, one_less, reaches};
 use crate::show::{chosen_deviations, counted_line, head_of};
 use distinct_arguments::{Form, Options, Order};
 use distinct_inputs::Inputs;
@@ -98,13 +98,11 @@ fn shown_group(
 fn is_counted(options: &Options<'_>, sketch: &CompactThetaSketch) -> bool
     ensures { result ≡ reaches (options_of options.now).least (report_by (options_of options.now) sketch.now).estimate }
 {
-    match options.least {
-        Some(least) => {
-            let report = report_of(sketch, chosen_deviations(options));
-            u128::from(least) <= report.estimate
-        }
-        None => true,
+    if options.least.is_none() {
+        return true;
     }
+    let report = report_of(sketch, chosen_deviations(options));
+    reaches(options.least, report.estimate)
 }
 
 /// How groups are printed, in the form that options choose. Of those whose estimate
@@ -191,7 +189,7 @@ impl<'a> GroupPrinter<'a> {
     fn ranked(self, group: Group) -> Result<Ranked, Failure>
         ensures name { IfOk result (λ r. r.name.items ≡ group.name.items) }
         ensures estimate { IfOk result (λ r.
-            r.estimate ≡ (report_by (options_of self.entry.options.now) group.sketch).estimate) }
+            r.number ≡ (report_by (options_of self.entry.options.now) group.sketch).estimate) }
         ensures text { IfOk result (λ r.
             r.text.items
             ≡ group_line self.entry.listing (options_of self.entry.options.now) group.name.items group.sketch) }
@@ -201,7 +199,7 @@ impl<'a> GroupPrinter<'a> {
         let report = report_of(&sketch, chosen_deviations(self.options));
         let text = self.line(name.as_slice(), &sketch)?;
         Ok(Ranked {
-            estimate: report.estimate,
+            number: report.estimate,
             name,
             text,
         })
@@ -247,7 +245,7 @@ impl<'a> GroupPrinter<'a> {
         ensures memory { IfErr result (λ f. f ≡ failure.Memory) }
     {
         match self.options.sort.unwrap_or(Order::Name) {
-            Order::Estimate => self.ranked_groups_text(groups),
+            Order::Greatest => self.ranked_groups_text(groups),
             Order::Name => self.groups_text(groups),
         }
     }

@@ -24,6 +24,7 @@ mod per_file;
 mod ranked;
 mod show;
 mod similarity;
+mod sum_groups;
 mod sums;
 mod united;
 mod visits;

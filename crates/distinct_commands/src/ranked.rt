@@ -1,8 +1,8 @@
-//! Groups in the order of their estimates, and the first ones of a list.
+//! Groups in the order of the numbers that are printed of them, and the first ones of a list.
 ghost use Rattle.std.specs.Prelude.{◌≡◌, ◌-◌, ℕ, List, IfOk, flat_map};
 ghost use Rattle.std.specs.Option.{option_map};
 ghost use Rattle.std.specs.List.Sorted.{IsPermutation, IsSorted};
-ghost use Rattle.distinct_commands.specs.Ranked.{AreRanked, HasTexts, ranked_cmp, first_items, is_full};
+ghost use Rattle.distinct_commands.specs.Ranked.{AreRanked, HasTexts, ranked_cmp, first_items, is_full, reaches};
 
 use std::alloc::{AllocError, Global};
 use std::cmp::Ordering;
@@ -10,12 +10,22 @@ use std::cmp::Ordering;
 /// What is printed of a group, and what it is ordered by.
 #[derive(Drop)]
 pub struct Ranked {
-    /// The estimate of the number of different lines, as it is printed.
-    pub estimate: u128,
+    /// The number that is printed of it: an estimate, or a total.
+    pub number: u128,
     /// The name of the group.
     pub name: Vec<u8>,
     /// What is printed of it.
     pub text: Vec<u8>,
+}
+
+/// Whether a number is at least the least one that is printed, if there is one.
+pub fn reaches(least: Option<u64>, number: u128) -> bool
+    ensures { result ≡ reaches least number }
+{
+    match least {
+        Some(least) => u128::from(least) <= number,
+        None => true,
+    }
 }
 
 /// Whether nothing more is printed, if this many may be; any number may be if `None`.
@@ -38,11 +48,11 @@ pub fn one_less(room: Option<u64>) -> Option<u64>
     }
 }
 
-/// The order of two groups: the one of the greater estimate is first, and of equal estimates that of the lower name.
+/// The order of two groups: the one of the greater number is first, and of equal numbers that of the lower name.
 fn order_of(group: &Ranked, other: &Ranked) -> Ordering
     ensures { result ≡ ranked_cmp group.now other.now }
 {
-    match other.estimate.cmp(&group.estimate) {
+    match other.number.cmp(&group.number) {
         Ordering::Equal => group.name.as_slice().cmp(other.name.as_slice()),
         order => order,
     }
@@ -56,8 +66,12 @@ fn sort_groups(groups: &mut Vec<Ranked>)
     groups.sort_unstable_by(|group, other| order_of(group, other));
 }
 
-/// The texts of the first groups, as many as `most`, or of all, one after another.
-fn first_texts(alloc: Global, groups: &[Ranked], most: Option<u64>) -> Result<Vec<u8>, AllocError>
+/// The texts of the first groups, as many as `most`, or of all, one after another. The only error is `AllocError`.
+pub fn first_texts(
+    alloc: Global,
+    groups: &[Ranked],
+    most: Option<u64>,
+) -> Result<Vec<u8>, AllocError>
     ensures { IfOk result (λ v. v.items ≡ flat_map (λ group. group.text.items) (first_items most groups.now)) }
 {
     let mut text = Vec::new(alloc);
@@ -74,17 +88,17 @@ fn first_texts(alloc: Global, groups: &[Ranked], most: Option<u64>) -> Result<Ve
     Ok(text)
 }
 
-/// The texts of the first groups, as many as `most`, or of all, in the order of their estimates: the greatest first, and
-/// of equal estimates in the ascending order of the bytes of their names. The only error is `AllocError`.
+/// The texts of the first groups, as many as `most`, or of all, in the order of their numbers: the greatest first, and of
+/// equal numbers in the ascending order of the bytes of their names. The only error is `AllocError`.
 pub fn first_ranked_text(
     alloc: Global,
     groups: Vec<Ranked>,
     most: Option<u64>,
 ) -> Result<Vec<u8>, AllocError>
-    ensures { (estimate : List ℕ → ℕ) (text : List ℕ → List ℕ) (names : List (List ℕ))
-        → HasTexts estimate text names groups.items
+    ensures { (number : List ℕ → ℕ) (text : List ℕ → List ℕ) (names : List (List ℕ))
+        → HasTexts number text names groups.items
         → IfOk result (λ v.
-        (ordered : List (List ℕ)) × AreRanked estimate names ordered × (v.items ≡ flat_map text (first_items most ordered))) }
+        (ordered : List (List ℕ)) × AreRanked number names ordered × (v.items ≡ flat_map text (first_items most ordered))) }
 {
     let mut groups = groups;
     sort_groups(&mut groups);

@@ -12,7 +12,7 @@ ghost use Rattle.distinct_messages.specs.declared.failure.Failure.TheVariants as
 ghost use Rattle.distinct_arguments.specs.Faults.{options_of};
 ghost use Rattle.distinct_arguments.specs.Settings.{OptionValues, chosen_value};
 ghost use Rattle.distinct_inputs.specs.Failures.{chosen_amount, chosen_summary, HasGreatSum, HasNoNumberIn};
-ghost use Rattle.distinct_inputs.specs.Failures.{IsOfSums, IsOfTotal, shown_field};
+ghost use Rattle.distinct_inputs.specs.Failures.{IsOfNumbers, IsOfSums, IsOfTotal, shown_field};
 ghost use Rattle.distinct_messages.specs.Failures.{UnreadableIf};
 ghost use Rattle.totals.specs.Totals.{lines_total};
 ghost use Rattle.tuple_sketches.specs.declared.numbers.SummaryMode.{SummaryMode};
@@ -89,7 +89,7 @@ fn shown_field(amount: Amount) -> u64
 
 /// The failure for a line of the source that was opened last, which has no number to add in its field, which starts in
 /// this way.
-fn number_failure<S: Sources>(
+pub fn number_failure<S: Sources>(
     alloc: Global,
     inputs: &Inputs<'_, S>,
     amount: Amount,
@@ -100,6 +100,10 @@ fn number_failure<S: Sources>(
         → amount ≢ One
         → HasNoNumberIn amount line (bytes_of start.now) texts
         → IsOfSums mode options seed amount texts result }
+    ensures of_numbers { (texts : Option (List (List ℕ)))
+        → amount ≢ One
+        → HasNoNumberIn amount line (bytes_of start.now) texts
+        → IsOfNumbers amount texts result }
     ensures fallible { (may_fail : Bool) → UnreadableIf may_fail result }
 {
     let Ok(name) = String::from_str(alloc, inputs.name()) else {

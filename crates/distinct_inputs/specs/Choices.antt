@@ -1,5 +1,5 @@
 -- Lines of which fields are chosen.
-use Rattle.std.specs.Prelude.{ℕ, ◌-◌, ◌||◌, ◌&&◌, Bool, not, List, Option, Some, None, if◌then◌else◌}
+use Rattle.std.specs.Prelude.{ℕ, ◌-◌, ◌||◌, ◌&&◌, Bool, not, List, Option, Some, None, is_none, is_some, if◌then◌else◌}
 use Rattle.distinct_arguments.specs.Settings.{OptionValues, ColumnValue, numbered, texted, between, chosen_value, has_texts}
 use Rattle.distinct_arguments.specs.Words.{number_of}
 use Rattle.std.specs.Option.{option_map}
@@ -33,11 +33,12 @@ abbrev pub column_with : Option ℕ → Option (List ℕ) → Option ColumnValue
 column_with number (Some text) = Some (texted text)
 column_with number None = option_map numbered number
 
-abbrev pub key_with : OptionValues → Option ColumnValue
-key_with options = column_with options.field options.field_text
-
 abbrev pub group_with : OptionValues → Option ColumnValue
 group_with options = column_with options.by options.by_text
+
+-- where numbers are added up and no field is chosen, the group is read in place of the key, which is not used then
+abbrev pub key_with : OptionValues → Option ColumnValue
+key_with options = if is_none options.field && is_some options.value then group_with options else column_with options.field options.field_text
 
 abbrev pub value_with : OptionValues → Option ColumnValue
 value_with options = column_with options.value options.value_text

@@ -153,6 +153,11 @@ IsOfSums mode options seed amount texts (NotANumber name line field start) =
     (amount ≢ One) × (field ≡ shown_field amount) × HasNoNumberIn amount line start.items texts
 IsOfSums mode options seed amount texts failure = IsOfReading failure
 
+-- lines have no totals by groups: memory was refused, a file can't be read, or a line has no number to add
+abbrev pub IsOfNumbers : Amount → (texts : Option (List (List ℕ))) → Failure → Type 0
+IsOfNumbers amount texts (NotANumber name line field start) = (amount ≢ One) × (field ≡ shown_field amount) × HasNoNumberIn amount line start.items texts
+IsOfNumbers amount texts failure = IsOfReading failure
+
 -- lines are not sketched, or not summed if they add something
 abbrev pub IsOfChosen : Option Amount → OptionValues → (seed : ℕ) → (texts : Option (List (List ℕ))) → Failure → Type 0
 IsOfChosen None options seed texts failure = IsOfReading failure
@@ -173,6 +178,19 @@ IsOfTotalOf (Some field) options seed texts failure = IsOfSums Sum options seed 
 
 abbrev pub IsOfTotal : OptionValues → (seed : ℕ) → (texts : Option (List (List ℕ))) → Failure → Type 0
 IsOfTotal options seed texts failure = IsOfTotalOf (chosen_value options) options seed texts failure
+
+-- .. by groups
+abbrev pub IsOfGroupTotalsOf : (value : Option Key) → OptionValues → (texts : Option (List (List ℕ))) → Failure → Type 0
+IsOfGroupTotalsOf None options texts failure = LacksValue options failure
+IsOfGroupTotalsOf (Some field) options texts failure = IsOfNumbers (Number field) texts failure
+
+abbrev pub IsOfGroupTotals : OptionValues → (texts : Option (List (List ℕ))) → Failure → Type 0
+IsOfGroupTotals options texts failure = IsOfGroupTotalsOf (chosen_value options) options texts failure
+
+-- `sum` fails, by the key of groups if there is one
+abbrev pub IsOfSum : (by : Option Key) → OptionValues → (seed : ℕ) → (texts : Option (List (List ℕ))) → Failure → Type 0
+IsOfSum None options seed texts failure = IsOfTotal options seed texts failure
+IsOfSum (Some by) options seed texts failure = IsOfGroupTotals options texts failure
 
 -- no names from the list of this name and, if they are known, of these bytes: memory was refused, the list can't be read,
 -- it has lines and no NUL byte, or the first name that can't be one has this number

@@ -57,6 +57,18 @@ fn amount_of(options: &Options<'_>) -> Option<Amount>
     }
 }
 
+/// What chooses the fields of a line's key, if anything does. Where numbers are added up and no field is chosen, it is that of a
+/// line's group: `sum --by` uses no keys.
+fn key_column<'a>(options: &Options<'a>) -> Option<Column<'a>>
+    ensures { option_map column_value result ≡ key_with (options_of options.now) }
+{
+    if options.field.is_none() && options.value.is_some() {
+        column_with(options.by, options.by_text)
+    } else {
+        column_with(options.field, options.field_text)
+    }
+}
+
 /// How the lines of files are passed on as others, or left out, if they are.
 pub fn choice_of<'a>(options: &Options<'a>) -> Option<Choice<'a>>
     ensures mapped { IfSome result (λ _. is_mapped (options_of options.now) ≡ true) }
@@ -85,7 +97,7 @@ pub fn choice_of<'a>(options: &Options<'a>) -> Option<Choice<'a>>
         },
         header: has_header,
         has_parts,
-        key: column_with(options.field, options.field_text),
+        key: key_column(options),
         group: column_with(options.by, options.by_text),
         value: column_with(options.value, options.value_text),
         amount: amount_of(options),
@@ -273,9 +285,10 @@ impl Choice<'_> {
     /// The parts of a line that are chosen, by this first line. Fails if it lacks a name.
     fn chosen_by(&self, alloc: Global, header: Option<&[u8]>) -> io::Result<Chosen> {
         let separator = self.separator();
+        let group = any_part(alloc, separator, header, self.group, NO_GROUP)?;
         Ok(Chosen {
             key: part_of(alloc, separator, header, self.key, NO_KEY)?,
-            group: any_part(alloc, separator, header, self.group, NO_GROUP)?,
+            group,
             value: any_part(alloc, separator, header, self.value, NO_VALUE)?,
         })
     }

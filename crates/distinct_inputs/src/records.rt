@@ -1,7 +1,7 @@
 //! Files of records.
 ghost use Rattle.std.specs.Prelude.{◌≡◌, unwrap_or};
 ghost use Rattle.distinct_arguments.specs.Faults.{options_of};
-ghost use Rattle.distinct_inputs.specs.Records.{chosen_columns, record_form};
+ghost use Rattle.distinct_inputs.specs.Records.{chosen_columns, key_number, record_form};
 
 use distinct_arguments::Options;
 use keys_records::{Columns, Form};
@@ -19,12 +19,24 @@ fn number_of(field: Option<u32>) -> u64
     }
 }
 
+/// The number of the field that is a record's key, or `None` if the whole record is. Where numbers are added up and no field is
+/// chosen, it is that of a record's group: `sum --by` uses no keys.
+fn key_number(options: &Options<'_>) -> Option<u32>
+    ensures { result ≡ key_number (options_of options.now) }
+{
+    if options.field.is_none() && options.value.is_some() {
+        options.by
+    } else {
+        options.field
+    }
+}
+
 /// The fields of a record that options use: those of their numbers, or all if texts choose some, or if the whole record
 /// is its key.
 fn chosen_columns(options: &Options<'_>) -> Columns
     ensures { result ≡ chosen_columns (options_of options.now) }
 {
-    match options.field {
+    match key_number(options) {
         _ if options.has_texts() => Columns::all(),
         Some(field) => Columns::new(
             field as u64,

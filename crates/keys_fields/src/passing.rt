@@ -7,7 +7,7 @@ ghost use Rattle.keys_fields.specs.Passing.{bytes_for, is_left_out, lacks_number
 
 use crate::chosen::{Chosen, Refused, push_byte};
 use crate::layout::Layout;
-use keys_sums::{Amount, amount_of};
+use keys_sums::{Amount, amount_in};
 use std::io;
 use std::io::ErrorKind;
 
@@ -28,7 +28,7 @@ fn lacks_number(amount: Option<Amount>, line: &[u8]) -> bool
 {
     match amount {
         None => false,
-        Some(amount) => amount_of(amount, line).is_none(),
+        Some(amount) => amount_in(amount, line).is_none(),
     }
 }
 

@@ -29,7 +29,8 @@ mod uniting;
 
 pub use files::{GroupFile, file_name, files_of};
 pub use groups::{Group, Grouping, Groups};
-pub use reading::{GroupWatch, group_sources};
+pub use order::names_ascend;
+pub use reading::{GroupWatch, group_sources, next_line, without_lf};
 pub use sketched::{SketchedGroups, sketched_text};
 pub use united::{LineFlaw, UnitedGroups, image_line};
 pub use uniting::{UniteError, unite_groups, united_text};

@@ -7,7 +7,7 @@ ghost use Rattle.std.specs.Cmp.Lexicographic.{slice_cmp};
 use std::collections::BTreeMap;
 
 /// Does nothing. Its clause says that the names in a map ascend, which callers know of no map that they have.
-pub(crate) fn names_ascend<V>(map: &BTreeMap<Vec<u8>, V>)
+pub fn names_ascend<V>(map: &BTreeMap<Vec<u8>, V>)
     ensures { IsStrictlySortedBy (λ x y. slice_cmp nat_cmp x.items y.items) (keys_of map.now.entries) }
 {
     let _ = map.len();

@@ -27,7 +27,7 @@ pub trait GroupWatch {
 }
 
 /// A text without the LF at its end, if it has one.
-pub(crate) fn without_lf(text: &[u8]) -> &[u8]
+pub fn without_lf(text: &[u8]) -> &[u8]
     ensures { result.now ≡ without_lf text.now }
 {
     match text.split_last() {
@@ -38,7 +38,7 @@ pub(crate) fn without_lf(text: &[u8]) -> &[u8]
 
 /// Reads the next line, with the LF that ends it, into `line`, whose old bytes are dropped. Returns whether there was
 /// one. If the reader fails, its error is returned.
-pub(crate) fn next_line<R: Read>(reader: &mut BufReader<R>, line: &mut Vec<u8>) -> io::Result<bool>
+pub fn next_line<R: Read>(reader: &mut BufReader<R>, line: &mut Vec<u8>) -> io::Result<bool>
     ensures { IfOk result (ReadsLine
         (reader_remaining R.remaining reader.old)
         (reader_remaining R.remaining reader.new)

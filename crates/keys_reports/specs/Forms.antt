@@ -82,3 +82,21 @@ json_fields r =
 -- a report as a JSON object, on a line
 abbrev pub json_line : Option (List ℕ) → Report → List ℕ
 json_line name r = json_head name ++ json_fields r ++ codes "}\n"
+
+-- ---- a total under a name
+
+-- the line of a total: its name as it is, a tab and the number
+abbrev pub named_total_line : (name : List ℕ) → (total : ℕ) → List ℕ
+named_total_line name total = name ++ (codes "\t" ++ decimal total ++ codes "\n")
+
+-- the names of a table's columns, with a tab between them
+abbrev pub named_total_tsv_head : List ℕ
+named_total_tsv_head = codes "name\ttotal\n"
+
+-- the row of a total in a table
+abbrev pub named_total_tsv_row : (name : List ℕ) → (total : ℕ) → List ℕ
+named_total_tsv_row name total = tsv_name (Some name) ++ (decimal total ++ codes "\n")
+
+-- a total as a JSON object, on a line
+abbrev pub named_total_json_line : (name : List ℕ) → (total : ℕ) → List ℕ
+named_total_json_line name total = json_head (Some name) ++ (codes "\"total\":" ++ decimal total) ++ codes "}\n"

@@ -123,7 +123,7 @@ pub fn tsv_head<A: Allocator>(alloc: A, named: bool) -> Result<String<A>, AllocE
 }
 
 /// The name of a row and a tab, or nothing if there is no name.
-fn row_name<A: Allocator>(alloc: A, name: Option<&[u8]>) -> Result<String<A>, AllocError>
+pub(crate) fn row_name<A: Allocator>(alloc: A, name: Option<&[u8]>) -> Result<String<A>, AllocError>
     ensures { IfOk result (λ text. string_bytes text ≡ tsv_name (option_map (λ s. s.now) name.entry)) }
 {
     let Some(name) = name else {
@@ -165,7 +165,10 @@ pub fn tsv_row<A: Allocator>(
 }
 
 /// The beginning of a JSON object: its brace, and the field of a name with a comma if there is a name.
-fn object_head<A: Allocator>(alloc: A, name: Option<&str>) -> Result<String<A>, AllocError>
+pub(crate) fn object_head<A: Allocator>(
+    alloc: A,
+    name: Option<&str>,
+) -> Result<String<A>, AllocError>
     ensures { IfOk result (λ text. string_bytes text ≡ json_head (option_map (λ s. s.now) name.entry)) }
 {
     let Some(name) = name else {

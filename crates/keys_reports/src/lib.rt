@@ -7,6 +7,7 @@
 mod forms;
 mod human;
 pub mod laws;
+mod named_totals;
 mod names;
 mod part;
 mod ranges;
@@ -14,6 +15,9 @@ mod report;
 
 pub use forms::{count_line, json_line, named_count_line, shown_line, tsv_head, tsv_row};
 pub use human::{human_line, named_human_line};
+pub use named_totals::{
+    named_total_json_line, named_total_line, named_total_tsv_head, named_total_tsv_row,
+};
 pub use names::{escaped_name, put_json_string};
 pub use part::report_of_part;
 pub use ranges::{range_json_line, range_line, range_tsv_head, range_tsv_row};

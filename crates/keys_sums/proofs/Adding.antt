@@ -182,11 +182,11 @@ module _ (mode : SummaryMode) (hashing : Hashing) (amount : List ℕ → ℕ) (l
 
 -- ---- the total
 
-total_more : (amount : List ℕ → ℕ) (lines : List (List ℕ)) (line : List ℕ) → total_added amount (lines ++ line ∷ []) ≡ total_added amount lines + amount line
+pub total_more : (amount : List ℕ → ℕ) (lines : List (List ℕ)) (line : List ℕ) → total_added amount (lines ++ line ∷ []) ≡ total_added amount lines + amount line
 total_more amount [] line = omega arith
 total_more amount (first ∷ lines) line = omega (arith, total_more amount lines line)
 
-capped_more : (total more cap : ℕ) → min (min total cap + more) cap ≡ min (total + more) cap
+pub capped_more : (total more cap : ℕ) → min (min total cap + more) cap ≡ min (total + more) cap
 capped_more total more cap = grind (arith, nat_tests)
 
 -- a line more was added, to the number of its key and to the total

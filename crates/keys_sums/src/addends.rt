@@ -1,13 +1,13 @@
 //! What a line adds to the sum of its key, while the line is read in pieces.
 ghost use Rattle.std.specs.Prelude.{◌≡◌, ◌++◌, ◌∷◌, ◌==◌, not, ℕ, List, [], Some, length, IfSome};
-ghost use Rattle.keys_lines.specs.Keys.{key_of, line_hash};
+ghost use Rattle.keys_lines.specs.Keys.{line_hash};
 ghost use Rattle.keys_lines.specs.declared.key.Hashing.{Hashing};
-ghost use Rattle.keys_sums.specs.Amounts.{amount_in, number_in, value_in, IsEndedAddend, IsOpenAddend};
+ghost use Rattle.keys_sums.specs.Amounts.{amount_in, value_in, IsEndedAddend, IsOpenAddend};
 ghost use Rattle.keys_sums.specs.Parts.{IsStart};
 ghost use Rattle.keys_sums.specs.declared.addends.Amount.{Amount};
 ghost use Rattle.keys_sums.specs.declared.addends.Amount.TheVariants.{One};
 
-use crate::digits::{Digits, short_number};
+use crate::digits::{Digits, number_in, short_number};
 use crate::parts::{Collected, OpenPart};
 use crate::starts::ValueStart;
 use keys_lines::{Hashing, Key, OpenLine, key_hash, key_in};
@@ -41,24 +41,26 @@ pub(crate) fn whole_addend(hashing: Hashing, amount: Amount, line: &[u8]) -> Opt
 }
 
 /// What a whole line adds; `None` if that is no number below 2^64.
-pub fn amount_of(amount: Amount, line: &[u8]) -> Option<u64>
+pub fn amount_in(amount: Amount, line: &[u8]) -> Option<u64>
     ensures { result ≡ amount_in amount line.now }
 {
     match amount {
         Amount::One => Some(1),
-        Amount::Number(key) => number_of(key, line),
+        Amount::Number(key) => number_in(key_in(key, line)),
     }
 }
 
-/// The number that a part of a whole line spells; `None` if that is no number below 2^64.
-fn number_of(key: Key, line: &[u8]) -> Option<u64>
-    ensures { result ≡ number_in (key_of key line.now) }
+/// How the part of a whole line starts that should be a number. It is empty if each line adds one.
+pub fn value_start(amount: Amount, line: &[u8]) -> ValueStart
+    ensures { IsStart (value_in amount line.now) result }
 {
-    if let Some(number) = short_number(key_in(key, line)) {
-        return Some(number);
+    match amount {
+        Amount::One => ValueStart::nothing(),
+        Amount::Number(key) => {
+            let start: OpenPart<ValueStart> = OpenPart::new();
+            start.with_bytes(key, line).collected
+        }
     }
-    let part: OpenPart<Digits> = OpenPart::new().with_bytes(key, line);
-    part.collected.number()
 }
 
 /// A line that has begun, which is to be added: the hash of its key, and the number in its part, so far; and how that part

@@ -3,7 +3,8 @@ ghost use Rattle.std.specs.Prelude.{◌≡◌, ◌<◌, ◌≤◌, ◌+◌, ◌*
 ghost use Rattle.keys_sums.specs.Amounts.{number_in, IsRead};
 ghost use Rattle.keys_sums.specs.declared.digits.Digits.TheVariants as digits;
 
-use crate::parts::Collected;
+use crate::parts::{Collected, OpenPart};
+use keys_lines::Key;
 
 /// The greatest number to which any digit can be appended below 2^64.
 const MOST_BEFORE_DIGIT: u64 = u64::MAX / 10 - 1;
@@ -26,6 +27,19 @@ pub(crate) fn short_number(text: &[u8]) -> Option<u64>
         number = number * 10 + (*byte - b'0') as u64;
     }
     Some(number)
+}
+
+/// The whole number below 2^64 that a text spells in decimal digits, if it spells one.
+pub(crate) fn number_in(text: &[u8]) -> Option<u64>
+    ensures { result ≡ number_in text.now }
+{
+    match short_number(text) {
+        Some(number) => Some(number),
+        None => {
+            let digits: OpenPart<Digits> = OpenPart::new();
+            digits.with_bytes(Key::Line, text).collected.number()
+        }
+    }
 }
 
 /// What the bytes read so far spell.

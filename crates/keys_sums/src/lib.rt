@@ -30,7 +30,7 @@ mod starts;
 mod summing;
 mod uniting;
 
-pub use addends::{Amount, amount_of};
+pub use addends::{Amount, amount_in, value_start};
 pub use bins::{BINS, count_in, greatest_of, greatest_sum, least_of};
 pub use images::{read_sums, sums_image};
 pub use operands::all_sums;

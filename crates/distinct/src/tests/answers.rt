@@ -5,7 +5,7 @@ ghost use Rattle.theta_sketches.specs.Image.{written};
 ghost use Rattle.distinct_arguments.specs.Arguments.{action_of};
 ghost use Rattle.distinct_arguments.specs.declared.commands.Operator.TheVariants.{Union, Meet, Minus};
 ghost use Rattle.distinct_arguments.specs.Faults.{options_of, request_action};
-ghost use Rattle.distinct_arguments.specs.Settings.{chosen_group, chosen_value};
+ghost use Rattle.distinct_arguments.specs.Settings.{chosen_group};
 ghost use Rattle.distinct_inputs.specs.Failures.{chosen_amount};
 ghost use Rattle.distinct_inputs.specs.Lists.{names_of, texts_of};
 ghost use Rattle.distinct_commands.specs.Answers.{sketch_of, IsShowText};
@@ -15,7 +15,7 @@ ghost use Rattle.distinct_commands.specs.Eval.{IsEvaluatedOf};
 ghost use Rattle.distinct_commands.specs.Operands.{words_for, words_in, Suits, SuitsAction};
 ghost use Rattle.distinct_commands.specs.Similarity.{IsComparedOf};
 ghost use Rattle.distinct_commands.specs.Matrix.{IsMatrixOf};
-ghost use Rattle.distinct_commands.specs.Sums.{IsTotalText};
+ghost use Rattle.distinct_commands.specs.SumGroups.{IsSumText};
 ghost use Rattle.distinct_commands.specs.Visits.{IsVisitsText};
 
 use crate::tests::words_of;
@@ -253,7 +253,7 @@ fn sum_of(
 ) -> Result<Vec<u8>, Failure>
     requires seeded { seed_hash seed ≢ 0 }
     ensures summed { IfOk result (λ v.
-        IsTotalText (chosen_value (options_of options.now)) (options_of options.now) seed (texts_of texts.now)
+        IsSumText (chosen_group (options_of options.now)) (options_of options.now) seed (texts_of texts.now)
         v.items) }
 {
     let written = answered(
@@ -605,6 +605,19 @@ fn writes_each_answer(rt: HostRuntime) -> Result<(), Fail> {
             &["sum", "--separator=;", "--field=1", "--value=2", "a", "b"],
             AMOUNTS,
             "18446744073709551623\n",
+        ),
+        (
+            &[
+                "sum",
+                "--separator=;",
+                "--by=1",
+                "--value=2",
+                "--sort=total",
+                "a",
+                "b",
+            ],
+            AMOUNTS,
+            "ann\t18446744073709551615\nbob\t7\n\t1\n",
         ),
     ] {
         let (first, second) = match both_written(rt.alloc(), arguments, texts) {

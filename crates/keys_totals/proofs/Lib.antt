@@ -1,0 +1,2 @@
+pub mod OwnTotals
+pub mod LackingLines
