@@ -1,3 +1,4 @@
 pub mod Tables
 pub mod Joins
 pub mod Reading
+pub mod Evaluated

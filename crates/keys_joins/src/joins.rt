@@ -53,7 +53,7 @@ fn all_at(
 
 /// The intersection of sketches of one seed. Such an intersection is refused only for memory, so this is what any
 /// refusal is reported as.
-fn met(
+pub(crate) fn met(
     alloc: Global,
     seed: u64,
     sketches: &[CompactThetaSketch],

@@ -95,7 +95,7 @@ fn put_table(
 }
 
 /// A table of the groups of each source that is left.
-fn tables_of<S: Sources>(
+pub(crate) fn tables_of<S: Sources>(
     alloc: Global,
     seed: u64,
     lg_k: u8,

@@ -1,8 +1,10 @@
 //! The sketches of the groups of a file, by their names.
-ghost use Rattle.std.specs.Prelude.{◌≡◌, ℕ, List, None, true, IfOk, OnOk};
+ghost use Rattle.std.specs.Prelude.{◌≡◌, ◌++◌, ◌∷◌, ℕ, List, None, true, IfOk, OnOk};
 ghost use Rattle.std.specs.Option.{option_copied};
 ghost use Rattle.core_compact.specs.CompactState.{Compact};
 ghost use Rattle.core_laws.specs.Refusal.{Refuses};
+ghost use Rattle.keys_groups.specs.Names.{texts_of};
+ghost use Rattle.keys_sketches.specs.Keys.{HaveSameLines};
 ghost use Rattle.keys_joins.specs.Tables.{FileGroups, HasGroupsOf, sketch_at, SetsSketch};
 
 use keys_groups::{Group, SketchedGroups};
@@ -27,6 +29,16 @@ fn put_group(map: &mut BTreeMap<Vec<u8>, CompactThetaSketch>, group: Group) -> R
     Ok(())
 }
 
+/// Puts a name among others. Refused only with `OutOfMemory`.
+fn put_name(alloc: Global, name: &[u8], names: &mut BTreeMap<Vec<u8>, ()>) -> Result<(), Error>
+    ensures put { OnOk result (HaveSameLines (texts_of names.new.entries) (name.now ∷ texts_of names.old.entries)) }
+    ensures refused { Refuses result None true }
+{
+    let key = Vec::from_slice(alloc, name)?;
+    names.insert(key, ())?;
+    Ok(())
+}
+
 impl SketchTable {
     /// The sketches of groups, which are taken out. Refused only with `OutOfMemory`.
     pub(crate) fn of<G: SketchedGroups>(alloc: Global, groups: &mut G) -> Result<SketchTable, Error>
@@ -44,6 +56,22 @@ impl SketchTable {
             put_group(&mut map, group)?;
         }
         Err(Error::from(AllocError))
+    }
+
+    /// Puts the names of all groups among others. Refused only with `OutOfMemory`.
+    pub(crate) fn put_names(
+        &self,
+        alloc: Global,
+        names: &mut BTreeMap<Vec<u8>, ()>,
+    ) -> Result<(), Error>
+        ensures put { OnOk result (HaveSameLines (texts_of names.new.entries)
+            (texts_of self.now.map.entries ++ texts_of names.old.entries)) }
+        ensures refused { Refuses result None true }
+    {
+        for (name, _) in &self.map {
+            put_name(alloc, name.as_slice(), names)?;
+        }
+        Ok(())
     }
 
     /// The sketch of the group of this name, if there is one.
