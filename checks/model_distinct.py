@@ -33,7 +33,7 @@ OPTIONS = {
     "meet": "-C --seed --seed-file --files0-from --expect --hex --groups --output",
     "minus": "-C --seed --seed-file --hex --groups --output",
     "show": "-C --seed --seed-file --files0-from --hex --groups --bounds --tsv --json",
-    "eval": "-C --lg-k --seed --seed-file --keys --sums --summary --field --separator --csv --blanks --crlf --header --bounds --tsv --json --hex --output --force",
+    "eval": "-C --lg-k --seed --seed-file --keys --sums --summary --field --separator --csv --blanks --crlf --header --groups --sort --min --top --bounds --human --tsv --json --hex --output --force",
     "visits": "-C --lg-k --field --separator --csv --blanks --crlf --header --sums --hex --seed --seed-file --files0-from --part --bounds --tsv --json",
     "similarity": "-C --seed --seed-file --hex --bounds --tsv --json",
     "matrix": "-C --seed --seed-file --files0-from --hex --bounds --tsv --json",
@@ -777,6 +777,10 @@ def read_arguments(words):
         raise Fault("--sums with --groups, --field or eval --bounds")
     if command == "sketch" and "--by" in options and "--hex" not in options and "--output-dir" not in options:
         raise Fault("--by without --hex and without --output-dir")
+    if command == "eval" and "--human" in options and "--groups" not in options:
+        raise Fault("eval --human without --groups")
+    if {"--groups", "--keys"} <= options.keys():
+        raise Fault("--groups and --keys")
     if options.get("--human") and options["form"]:
         raise Fault("--human with --tsv or --json")
     if {"--sort", "--min", "--top"} & options.keys() and not {"--by", "--groups"} & options.keys():
@@ -1087,13 +1091,17 @@ def file_of(folder, name):
     return f"{folder}/" + ("".join(chr(it) if it in plain else f"%{it:02x}" for it in name) or "%") + ".theta"
 
 
+def chosen_groups(rows, options):
+    """The names and the sketches of the groups that are printed, in their order, with their reports."""
+    rows = [(name, it, report_of(it, options["--bounds"] or 2)) for name, it in rows]
+    if options["--sort"] == "estimate":
+        rows.sort(key=lambda row: -row[2]["estimate"])
+    return [row for row in rows if row[2]["estimate"] >= (options["--min"] or 0)][: options["--top"]]
+
+
 def printed_counts(rows, options):
     """What `count` prints of the names and the sketches of groups."""
-    reports = [(name, report_of(it, options["--bounds"] or 2)) for name, it in rows]
-    if options["--sort"] == "estimate":
-        reports.sort(key=lambda row: -row[1]["estimate"])
-    reports = [row for row in reports if row[1]["estimate"] >= (options["--min"] or 0)][: options["--top"]]
-    return printed_groups(reports, options)
+    return printed_groups([(name, report) for name, _, report in chosen_groups(rows, options)], options)
 
 
 def united_groups(files, names, options, own_hash, messages):
@@ -1123,6 +1131,14 @@ def joined_groups(command, files):
     if command == "meet":
         return [(name, meet([it, *(file[name] for file in others)])) for name, it in first.items() if all(name in file for file in others)]
     return [(name, minus(it, others[0].get(name))) for name, it in first.items()]
+
+
+def evaluated_groups(text, files, options, own_hash):
+    """The name and the result of an expression for each group that any of its files has, in ascending order."""
+    steps, unions = steps_of(text), options | {"--lg-k": 26}
+    tables = {name: dict(united_groups(files, [name], unions, own_hash, [])) for name in names_of(steps)}
+    groups = sorted(set().union(*tables.values()))
+    return [(group, evaluated(steps, {name: it.get(group) for name, it in tables.items()}, 2 ** options["--lg-k"], None)) for group in groups]
 
 
 def written(answer, files, options):
@@ -1183,6 +1199,12 @@ def run(words, files, messages):
     if command == "sketch" and (options.get("--value") or options.get("--visits")):
         image = image_of(sums_of([(name, text_of(files, name)) for name in names], options, seed), seed_hash(seed), True)
         return written(image.hex().encode() + b"\n" if hex_lines else image, files, options)
+    if command == "eval" and options["--groups"]:
+        groups = evaluated_groups(names[0], files, options, seed_hash(seed))
+        if options["--output"] is None:
+            return printed_counts(groups, options)
+        lines = [group_line(name, image_of(it, seed_hash(seed))) for name, it, _ in chosen_groups(groups, options)]
+        return written(b"".join(lines), files, options)
     if options["--groups"]:
         if command in ("meet", "minus"):
             groups = joined_groups(command, [dict(united_groups(files, [name], options, seed_hash(seed), messages)) for name in names])

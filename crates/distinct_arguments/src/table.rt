@@ -388,7 +388,7 @@ pub(crate) const OPTIONS: [Row; 35] = [
             (
                 ALL,
                 Rule::Excludes(OptionName::Groups),
-                ": unite the images of each group in a run of their own",
+                ": combine the images of each group in a run of their own",
             ),
             (
                 &["eval"],
@@ -495,7 +495,7 @@ pub(crate) const OPTIONS: [Row; 35] = [
         "--groups",
         None,
         Kind::Flag,
-        &["count", "union", "meet", "minus", "show"],
+        &["count", "union", "meet", "minus", "show", "eval"],
         &[
             (ALL, Rule::Needs(OptionName::Hex), ""),
             (
@@ -507,6 +507,11 @@ pub(crate) const OPTIONS: [Row; 35] = [
                 &["count"],
                 Rule::Excludes(OptionName::By),
                 ": pass --by to sketch",
+            ),
+            (
+                &["eval"],
+                Rule::Excludes(OptionName::Keys),
+                ": sketch --by N makes images of groups from lines",
             ),
             (
                 &["count"],
@@ -528,24 +533,33 @@ pub(crate) const OPTIONS: [Row; 35] = [
         "--sort",
         None,
         Kind::Order,
-        &["count"],
-        &[(ALL, Rule::NeedsGroups, "")],
+        &["count", "eval"],
+        &[
+            (&["count"], Rule::NeedsGroups, ""),
+            (&["eval"], Rule::Needs(OptionName::Groups), ""),
+        ],
     ),
     (
         OptionName::Min,
         "--min",
         None,
         Kind::Number(1, u64::MAX),
-        &["count"],
-        &[(ALL, Rule::NeedsGroups, "")],
+        &["count", "eval"],
+        &[
+            (&["count"], Rule::NeedsGroups, ""),
+            (&["eval"], Rule::Needs(OptionName::Groups), ""),
+        ],
     ),
     (
         OptionName::Top,
         "--top",
         None,
         Kind::Number(1, u64::MAX),
-        &["count"],
-        &[(ALL, Rule::NeedsGroups, "")],
+        &["count", "eval"],
+        &[
+            (&["count"], Rule::NeedsGroups, ""),
+            (&["eval"], Rule::Needs(OptionName::Groups), ""),
+        ],
     ),
     (
         OptionName::Progress,
@@ -600,10 +614,11 @@ pub(crate) const OPTIONS: [Row; 35] = [
         "--human",
         None,
         Kind::Flag,
-        &["count"],
+        &["count", "eval"],
         &[
-            (&["count"], Rule::Excludes(OptionName::Tsv), ""),
-            (&["count"], Rule::Excludes(OptionName::Json), ""),
+            (&["eval"], Rule::Needs(OptionName::Groups), ""),
+            (ALL, Rule::Excludes(OptionName::Tsv), ""),
+            (ALL, Rule::Excludes(OptionName::Json), ""),
         ],
     ),
     (
