@@ -380,6 +380,7 @@ READING = (
     "eval_of_lines",
     "eval_of_sums",
     "eval_of_hexadecimal",
+    "eval_by_groups",
     "eval_of_standard_input",
 )
 

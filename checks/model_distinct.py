@@ -33,7 +33,7 @@ OPTIONS = {
     "meet": "-C --seed --seed-file --files0-from --expect --hex --groups --output",
     "minus": "-C --seed --seed-file --hex --groups --output",
     "show": "-C --seed --seed-file --files0-from --hex --groups --bounds --tsv --json",
-    "eval": "-C --lg-k --seed --seed-file --keys --sums --summary --field --separator --csv --blanks --crlf --header --progress --bounds --tsv --json --hex --output --force",
+    "eval": "-C --lg-k --seed --seed-file --keys --sums --summary --field --separator --csv --blanks --crlf --header --progress --groups --sort --min --top --bounds --human --tsv --json --hex --output --force",
     "visits": LINES + "--sums --hex --bounds --tsv --json",
     "similarity": "-C --seed --seed-file --hex --bounds --tsv --json",
     "matrix": "-C --seed --seed-file --files0-from --hex --bounds --tsv --json",
@@ -815,6 +815,10 @@ def read_arguments(words):
         raise Fault("--sums with --groups or --field")
     if command == "sketch" and "--by" in options and "--hex" not in options and "--output-dir" not in options:
         raise Fault("--by without --hex and without --output-dir")
+    if command == "eval" and "--human" in options and "--groups" not in options:
+        raise Fault("eval --human without --groups")
+    if {"--groups", "--keys"} <= options.keys():
+        raise Fault("--groups and --keys")
     if options.get("--human") and options["form"]:
         raise Fault("--human with --tsv or --json")
     if {"--sort", "--min", "--top"} & options.keys() and not {"--by", "--groups"} & options.keys():
@@ -1150,13 +1154,17 @@ def file_of(folder, name):
     return f"{folder}/" + ("".join(chr(it) if it in plain else f"%{it:02x}" for it in name) or "%") + ".theta"
 
 
+def chosen_groups(rows, options):
+    """The names and the sketches of the groups that are printed, in their order, with their reports."""
+    rows = [(name, it, report_of(it, options["--bounds"] or 2)) for name, it in rows]
+    if options["--sort"] in ("estimate", "total"):
+        rows.sort(key=lambda row: -row[2]["estimate"])
+    return [row for row in rows if row[2]["estimate"] >= (options["--min"] or 0)][: options["--top"]]
+
+
 def printed_counts(rows, options):
     """What `count` prints of the names and the sketches of groups."""
-    reports = [(name, report_of(it, options["--bounds"] or 2)) for name, it in rows]
-    if options["--sort"] in ("estimate", "total"):
-        reports.sort(key=lambda row: -row[1]["estimate"])
-    reports = [row for row in reports if row[1]["estimate"] >= (options["--min"] or 0)][: options["--top"]]
-    return printed_groups(reports, options)
+    return printed_groups([(name, report) for name, _, report in chosen_groups(rows, options)], options)
 
 
 def printed_totals(totals, options):
@@ -1215,6 +1223,12 @@ def summed(files, names, options, seed, messages):
     except Failure:
         del messages[before:]
         raise
+def evaluated_groups(text, files, options, own_hash):
+    """The name and the result of an expression for each group that any of its files has, in ascending order."""
+    steps, unions = steps_of(text), options | {"--lg-k": 26}
+    tables = {name: dict(united_groups(files, [name], unions, own_hash, [])) for name in names_of(steps)}
+    groups = sorted(set().union(*tables.values()))
+    return [(group, evaluated(steps, {name: it.get(group) for name, it in tables.items()}, 2 ** options["--lg-k"], None)) for group in groups]
 
 
 def written(answer, files, options):
@@ -1278,6 +1292,12 @@ def run(words, files, messages):
     if command == "sketch" and (options.get("--value") or options.get("--visits")):
         image = image_of(summed(files, names, options, seed, messages)[1], seed_hash(seed), True)
         return written(image.hex().encode() + b"\n" if hex_lines else image, files, options)
+    if command == "eval" and options["--groups"]:
+        groups = evaluated_groups(names[0], files, options, seed_hash(seed))
+        if options["--output"] is None:
+            return printed_counts(groups, options)
+        lines = [group_line(name, image_of(it, seed_hash(seed))) for name, it, _ in chosen_groups(groups, options)]
+        return written(b"".join(lines), files, options)
     if options["--groups"]:
         if command in ("meet", "minus"):
             groups = joined_groups(command, [dict(united_groups(files, [name], options, seed_hash(seed), messages)) for name in names])

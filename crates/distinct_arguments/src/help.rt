@@ -290,30 +290,46 @@ Read:
       --summary MODE      with --sums: + and & add the sums of a key, or keep the least or the
                           greatest. MODE is sum, the default, min or max; pass that of sketch.
                           The total adds the sums that the keys have then
-      --hex               read and write images in hexadecimal, one line per file
+      --hex               read and write images in hexadecimal, one line per file; with --groups
+                          any number of lines
   -C DIR                  names of files are relative to the folder DIR
 
 Count:
   -k, --lg-k N            keep 2^N hashes of a union, N from 4 to 26; default 12
       --seed N            the seed of the hashes, from 0 to 2^64 - 1; default 9001
       --seed-file FILE    read the seed from FILE, which keeps it out of the process list
+      --groups            with --hex: evaluate the expression for each group that any file has.
+                          Print a line per group, in ascending order: its name, a tab, its count,
+                          which is 0 if the result is empty. A line of a file has the name of a
+                          group, a tab and an image, as sketch writes lines of groups; images of a
+                          group in one file are united first, and a group that a file lacks is
+                          empty there. Not with --keys or --sums
 
 Print:
+      --sort ORDER        with --groups: the order of groups: name, the default, or estimate,
+                          the greatest first and equal ones by name
+      --min N             with --groups: print only groups whose estimate is at least N; N from 1
+                          to 2^64 - 1
+      --top N             with --groups: print only the first N groups, in the order of --sort, of
+                          those that --min leaves; N from 1 to 2^64 - 1
       --progress          with --keys: about once a second, report on standard error how many
                           lines and bytes were read of all files, and the estimate of the one
                           that is being read. Not with --csv, --blanks, --crlf or --header
       --bounds=Z          the bounds of an estimate are for Z standard deviations; Z is 1, 2 or
-                          3, default 2
+                          3, default 2. With --groups they are printed behind it
+      --human             with --groups: print digits in groups of three and, of an estimate, its
+                          bounds (see count --help). Not with --tsv or --json
       --tsv               print values separated by tabs, under a line of their names
       --json              print a JSON object
   -o, --output FILE       write the image of the result to FILE, all or nothing, and print
-                          nothing
+                          nothing; with --groups a line per group, as meet writes them
       --force             let the output replace a file whose lines are read
   -q, --quiet             print no remarks and warnings on standard error
 
 Examples:
-  distinct eval '(mon.theta + tue.theta) & shop.theta'  a count of an expression
-  distinct eval --keys 'new.txt - old.txt'              lines that are in one file alone
+  distinct eval '(mon.theta + tue.theta) & shop.theta'    a count of an expression
+  distinct eval --keys 'new.txt - old.txt'                lines that are in one file alone
+  distinct eval --hex --groups 'mon.groups - tue.groups'  a count for each group
 ";
 
 const VISITS: &str = "\

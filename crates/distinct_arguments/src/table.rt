@@ -403,7 +403,7 @@ pub(crate) const OPTIONS: [Row; 36] = [
             (
                 ALL,
                 Rule::Excludes(OptionName::Groups),
-                ": unite the images of each group in a run of their own",
+                ": combine the images of each group in a run of their own",
             ),
         ],
     ),
@@ -505,7 +505,7 @@ pub(crate) const OPTIONS: [Row; 36] = [
         "--groups",
         None,
         Kind::Flag,
-        &["count", "union", "meet", "minus", "show"],
+        &["count", "union", "meet", "minus", "show", "eval"],
         &[
             (ALL, Rule::Needs(OptionName::Hex), ""),
             (
@@ -517,6 +517,11 @@ pub(crate) const OPTIONS: [Row; 36] = [
                 &["count"],
                 Rule::Excludes(OptionName::By),
                 ": pass --by to sketch",
+            ),
+            (
+                &["eval"],
+                Rule::Excludes(OptionName::Keys),
+                ": sketch --by N makes images of groups from lines",
             ),
             (
                 &["count"],
@@ -538,9 +543,10 @@ pub(crate) const OPTIONS: [Row; 36] = [
         "--sort",
         None,
         Kind::Order,
-        &["count", "sum"],
+        &["count", "eval", "sum"],
         &[
             (&["count"], Rule::NeedsGroups, ""),
+            (&["eval"], Rule::Needs(OptionName::Groups), ""),
             (&["sum"], Rule::Needs(OptionName::By), ""),
         ],
     ),
@@ -549,9 +555,10 @@ pub(crate) const OPTIONS: [Row; 36] = [
         "--min",
         None,
         Kind::Number(1, u64::MAX),
-        &["count", "sum"],
+        &["count", "eval", "sum"],
         &[
             (&["count"], Rule::NeedsGroups, ""),
+            (&["eval"], Rule::Needs(OptionName::Groups), ""),
             (&["sum"], Rule::Needs(OptionName::By), ""),
         ],
     ),
@@ -560,9 +567,10 @@ pub(crate) const OPTIONS: [Row; 36] = [
         "--top",
         None,
         Kind::Number(1, u64::MAX),
-        &["count", "sum"],
+        &["count", "eval", "sum"],
         &[
             (&["count"], Rule::NeedsGroups, ""),
+            (&["eval"], Rule::Needs(OptionName::Groups), ""),
             (&["sum"], Rule::Needs(OptionName::By), ""),
         ],
     ),
@@ -635,10 +643,11 @@ pub(crate) const OPTIONS: [Row; 36] = [
         "--human",
         None,
         Kind::Flag,
-        &["count"],
+        &["count", "eval"],
         &[
-            (&["count"], Rule::Excludes(OptionName::Tsv), ""),
-            (&["count"], Rule::Excludes(OptionName::Json), ""),
+            (&["eval"], Rule::Needs(OptionName::Groups), ""),
+            (ALL, Rule::Excludes(OptionName::Tsv), ""),
+            (ALL, Rule::Excludes(OptionName::Json), ""),
         ],
     ),
     (

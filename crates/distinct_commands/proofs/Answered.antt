@@ -17,8 +17,8 @@ use Rattle.keys_sums.specs.Unions.{IsUnitedSums, AreSumsOfTexts}
 use Rattle.keys_sums.specs.declared.addends.Amount.{Amount}
 use Rattle.keys_sums.specs.declared.addends.Amount.TheVariants.{Number}
 use Rattle.distinct_commands.specs.Sums.{sums_of, IsSumsText}
-use Rattle.distinct_commands.specs.Answers.{sketch_of, lines_text, listing_of, IsLinesText}
-use Rattle.distinct_commands.specs.Groups.{grouping_of, IsGroupsText, IsGroupedText}
+use Rattle.distinct_commands.specs.Answers.{sketch_of, lines_text, IsLinesText}
+use Rattle.distinct_commands.specs.Groups.{grouping_of, listing_of, IsGroupsText, IsGroupedText}
 use Rattle.distinct_commands.specs.Texts.{count_text}
 use Rattle.distinct_commands.specs.Visits.{visits_text, IsVisitsOfImages}
 use Rattle.keys_groups.specs.Groups.{AreGroups, group_sketch}

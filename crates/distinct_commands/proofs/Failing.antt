@@ -10,7 +10,7 @@ use Rattle.distinct_arguments.specs.Settings.{OptionValues}
 use Rattle.distinct_arguments.specs.declared.commands.Operator.{Operator}
 use Rattle.distinct_arguments.specs.declared.commands.Operator.TheVariants.{Union}
 use Rattle.distinct_inputs.specs.Failures.{images_in, unites_sums, IsOfImages, IsOfEitherUnion, IsOfCombining}
-use Rattle.distinct_commands.specs.Failing.{OrNoFiles, IsOfJoin, IsOfMinus}
+use Rattle.distinct_commands.specs.Failing.{OrNoFiles, IsOfGroupsResult, IsOfJoin, IsOfMinus}
 use Rattle.distinct_messages.specs.declared.failure.Failure.{Failure}
 use Rattle.distinct_messages.specs.declared.failure.Failure.TheVariants.{NotText, Arguments, NoFiles, NotTwo, NoExpression, NoDir, NoName, NoNul, NoSeed, Terminal, WrongCount, NotOneEach, Memory, Unreadable, NoSketch, NoSums, NoHex, NoTab, NoLine, PastGreatest, PastUnion, PastResult, NotANumber, LongName, NotWritten}
 
@@ -139,3 +139,31 @@ minus_of_join seed count texts (PastResult text) failed = failed
 minus_of_join seed count texts (NotANumber name line field value) failed = failed
 minus_of_join seed count texts (LongName path length) failed = failed
 minus_of_join seed count texts (NotWritten name error) failed = failed
+
+-- .. an expression over them isn't evaluated
+pub groups_of_join : (seed : ℕ) (texts : Option (List (List ℕ))) (f : Failure) → IsOfJoin seed texts f → IsOfGroupsResult seed texts f
+groups_of_join seed texts (NotText number text) failed = failed
+groups_of_join seed texts (Arguments fault) failed = failed
+groups_of_join seed texts NoFiles failed = failed
+groups_of_join seed texts NotTwo failed = failed
+groups_of_join seed texts (NoExpression text fault) failed = failed
+groups_of_join seed texts Terminal failed = failed
+groups_of_join seed texts (WrongCount found expected) failed = failed
+groups_of_join seed texts (NotOneEach found expected) failed = absurd failed
+groups_of_join seed texts (NoDir name error) failed = failed
+groups_of_join seed texts (NoSeed name) failed = failed
+groups_of_join seed texts (NoName name number) failed = failed
+groups_of_join seed texts (NoNul name) failed = failed
+groups_of_join seed texts Memory failed = failed
+groups_of_join seed texts (Unreadable name error) failed = failed
+groups_of_join seed texts (NoSketch name line flaw) failed = failed
+groups_of_join seed texts (NoSums name line flaw) failed = failed
+groups_of_join seed texts (NoHex name line) failed = failed
+groups_of_join seed texts (NoTab name line) failed = failed
+groups_of_join seed texts (NoLine name) failed = failed
+groups_of_join seed texts (PastGreatest name line) failed = failed
+groups_of_join seed texts (PastUnion name line) failed = failed
+groups_of_join seed texts (PastResult text) failed = failed
+groups_of_join seed texts (NotANumber name line field value) failed = failed
+groups_of_join seed texts (LongName path length) failed = failed
+groups_of_join seed texts (NotWritten name error) failed = failed

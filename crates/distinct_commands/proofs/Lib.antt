@@ -7,6 +7,7 @@ pub mod Ranking
 pub mod ShownImages
 pub mod ShowFailures
 pub mod GroupLines
+pub mod GroupResults
 pub mod Answered
 pub mod Failing
 pub mod Overlaps

@@ -19,7 +19,6 @@ use Rattle.keys_joins.specs.Joins.{intersection_of, difference_of, IsMeetText, I
 use Rattle.distinct_commands.specs.Eval.{IsEvaluatedOf}
 use Rattle.distinct_inputs.specs.Images.{images_of, in_form}
 use Rattle.distinct_commands.specs.Groups.{IsGroupedText, IsUnitedListing}
-use Rattle.distinct_commands.specs.declared.groups.Listing.{Listing}
 use Rattle.distinct_commands.specs.declared.groups.Listing.TheVariants.{Counts, Images, Shown}
 use Rattle.keys_lines.specs.declared.key.Key.{Key}
 use Rattle.distinct_commands.specs.Texts.{count_text, file_count_text, head_of}
@@ -102,11 +101,6 @@ IsCountText true options seed names texts out = IsUnitedListing Counts options s
 abbrev pub IsSketchOf : (by : Option Key) → OptionValues → (seed : ℕ) → (texts : List (List ℕ)) → List ℕ → Type 0
 IsSketchOf None options seed texts out = out ≡ in_form options.hex (written (sketch_of options seed texts))
 IsSketchOf (Some by) options seed texts out = IsGroupedText Images options seed by texts out
-
--- how the groups of lines are listed: by their images, or by their counts
-abbrev pub listing_of : (images : Bool) → Listing
-listing_of false = Counts
-listing_of true = Images
 
 -- what `count` prints of a sketch of lines, or its image, as `sketch` writes it
 abbrev pub lines_text : (images : Bool) → OptionValues → Compact ℕ → List ℕ

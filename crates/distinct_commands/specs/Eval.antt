@@ -14,6 +14,7 @@ use Rattle.expression_text.specs.Grammar.{IsExpressionText}
 use Rattle.expression_evaluation.specs.Values.{hashes_value, set_of}
 use Rattle.expression_evaluation.specs.Running.{values_of}
 use Rattle.distinct_arguments.specs.Settings.{OptionValues}
+use Rattle.distinct_commands.specs.EvalGroups.{AreEvaluated}
 use Rattle.distinct_commands.specs.EvalSums.{IsSumsEvaluated}
 use Rattle.distinct_inputs.specs.Failures.{chosen_hashing}
 use Rattle.distinct_inputs.specs.Images.{images_of, in_form}
@@ -76,9 +77,14 @@ pub record IsEvaluated (options : OptionValues) (seed : ℕ) (expression : List 
   pub whole : (sets : List (List ℕ)) → AreWholeSets options.keys options seed texts sketches sets →
       IsSample hash_key (hashes_value options.lg_k (values_of sketches) spelled.tree) (set_of sets spelled.tree)
 
+-- .. or over the groups of images in texts
+abbrev pub IsEvaluatedIn : (by_groups : Bool) → OptionValues → (seed : ℕ) → (expression : List ℕ) → (texts : List (List ℕ)) → List ℕ → Type 0
+IsEvaluatedIn false options seed expression texts out = IsEvaluated options seed expression texts out
+IsEvaluatedIn true options seed expression texts out = AreEvaluated options seed expression texts out
+
 -- .. over theta sketches, or over sketches of sums
 abbrev pub IsEvaluatedBy : (sums : Bool) → OptionValues → (seed : ℕ) → (expression : List ℕ) → (texts : List (List ℕ)) → List ℕ → Type 0
-IsEvaluatedBy false options seed expression texts out = IsEvaluated options seed expression texts out
+IsEvaluatedBy false options seed expression texts out = IsEvaluatedIn options.groups options seed expression texts out
 IsEvaluatedBy true options seed expression texts out = IsSumsEvaluated options seed expression texts out
 
 -- .. if there is one expression

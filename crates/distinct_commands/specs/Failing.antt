@@ -92,10 +92,27 @@ IsOfSumsResult options seed text texts (PastResult copy) =
     (string_bytes copy ≡ text) × IfSome texts (λ all. IsPastResult (chosen_summary options) options.lg_k seed text (images_of true options.hex all))
 IsOfSumsResult options seed text texts failure = IsOfImages true options.hex seed (images_in true options texts) failure
 
+-- in some text the first line with a flaw has this one, and this number: files of groups are not joined
+abbrev pub IsOfJoin : (seed : ℕ) → (texts : Option (List (List ℕ))) → Failure → Type 0
+IsOfJoin seed texts (NoTab name line) = IfSome texts (HasFlawedIn seed line NoTabAtAll)
+IsOfJoin seed texts (NoHex name line) = IfSome texts (HasFlawedIn seed line NoDigits)
+IsOfJoin seed texts (NoSketch name line flaw) = IfSome texts (HasFlawedIn seed line (NoImage flaw))
+IsOfJoin seed texts failure = IsOfReading failure
+
+-- an expression over groups of images isn't evaluated: a file is at fault, or there are not as many files as names
+abbrev pub IsOfGroupsResult : (seed : ℕ) → (texts : Option (List (List ℕ))) → Failure → Type 0
+IsOfGroupsResult seed texts (NotOneEach found names) = found ≢ names
+IsOfGroupsResult seed texts failure = IsOfJoin seed texts failure
+
+-- .. or over images
+abbrev pub IsOfHashes : (by_groups : Bool) → OptionValues → (seed : ℕ) → (texts : Option (List (List ℕ))) → Failure → Type 0
+IsOfHashes true options seed texts failure = IsOfGroupsResult seed texts failure
+IsOfHashes false options seed texts failure = IsOfThetas options seed texts failure
+
 -- an expression isn't evaluated, over sketches of sums or over theta sketches
 abbrev pub IsOfEvaluation : (sums : Bool) → OptionValues → (seed : ℕ) → (text : List ℕ) → (texts : Option (List (List ℕ))) → Failure → Type 0
 IsOfEvaluation true options seed text texts failure = IsOfSumsResult options seed text texts failure
-IsOfEvaluation false options seed text texts failure = IsOfThetas options seed texts failure
+IsOfEvaluation false options seed text texts failure = IsOfHashes options.groups options seed texts failure
 
 -- no image is named, if this may be, or another failure
 abbrev pub OrNoFiles : (HasNone : Type 0) → (IsOther : Failure → Type 0) → Failure → Type 0
@@ -112,14 +129,7 @@ abbrev pub IsOfShow : (of_groups : Bool) → (seed : ℕ) → (texts : Option (L
 IsOfShow false seed texts failure = EndsShow failure
 IsOfShow true seed texts failure = IsOfGroups seed texts failure
 
--- in some text the first line with a flaw has this one, and this number: files of groups are not joined
-abbrev pub IsOfJoin : (seed : ℕ) → (texts : Option (List (List ℕ))) → Failure → Type 0
-IsOfJoin seed texts (NoTab name line) = IfSome texts (HasFlawedIn seed line NoTabAtAll)
-IsOfJoin seed texts (NoHex name line) = IfSome texts (HasFlawedIn seed line NoDigits)
-IsOfJoin seed texts (NoSketch name line flaw) = IfSome texts (HasFlawedIn seed line (NoImage flaw))
-IsOfJoin seed texts failure = IsOfReading failure
-
--- .. or `minus` doesn't have two files
+-- files of groups are not joined, or `minus` doesn't have two files
 abbrev pub IsOfMinus : (seed count : ℕ) → (texts : Option (List (List ℕ))) → Failure → Type 0
 IsOfMinus seed count texts NotTwo = (count ≢ 2) ⊎ IfSome texts (λ all. length all ≢ 2)
 IsOfMinus seed count texts failure = IsOfJoin seed texts failure

@@ -1,5 +1,5 @@
 -- What is printed or written of groups.
-use Rattle.std.specs.Prelude.{ℕ, ◌≡◌, ◌++◌, List, [], ◌∷◌, Option, Some, None, unwrap_or, codes, flat_map}
+use Rattle.std.specs.Prelude.{ℕ, ◌≡◌, ◌++◌, Bool, true, false, List, [], ◌∷◌, Option, Some, None, unwrap_or, codes, flat_map}
 use Rattle.std.specs.Str.Lossy.{utf8_lossy}
 use Rattle.core_compact.specs.CompactState.{Compact}
 use Rattle.theta_sketches.specs.Image.{written}
@@ -42,6 +42,11 @@ abbrev pub shown_group : Form → OptionValues → (name : List ℕ) → Compact
 shown_group Plain options name s = shown_line (utf8_lossy name) (report_by options s)
 shown_group Tsv options name s = group_text options name s
 shown_group Json options name s = group_text options name s
+
+-- how groups are listed: by their images, or by their counts
+abbrev pub listing_of : (images : Bool) → Listing
+listing_of false = Counts
+listing_of true = Images
 
 -- the line of a group: its count, or its image as a line has it, after its name as it is and a tab, or what `show` prints of it
 abbrev pub group_line : Listing → OptionValues → (name : List ℕ) → Compact ℕ → List ℕ

@@ -1,6 +1,7 @@
 pub mod Texts
 pub mod Showing
 pub mod EvalSums
+pub mod EvalGroups
 pub mod Eval
 pub mod Visits
 pub mod Sums

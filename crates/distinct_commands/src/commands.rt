@@ -5,8 +5,9 @@ ghost use Rattle.sketch_base.specs.Seed.{seed_hash};
 ghost use Rattle.theta_sketches.specs.Image.{written};
 ghost use Rattle.distinct_arguments.specs.Faults.{options_of, request_action};
 ghost use Rattle.distinct_arguments.specs.Settings.{chosen_group};
-ghost use Rattle.distinct_commands.specs.Answers.{sketch_of, lines_text, listing_of, IsCountText, IsLinesText, IsSketchText};
+ghost use Rattle.distinct_commands.specs.Answers.{sketch_of, lines_text, IsCountText, IsLinesText, IsSketchText};
 ghost use Rattle.distinct_commands.specs.Answers.{IsCommandAnswer, IsLinesCount, IsShowText, IsWholeAnswer, WritesAnswer, Performs};
+ghost use Rattle.distinct_commands.specs.Groups.{listing_of};
 ghost use Rattle.distinct_commands.specs.Showing.{AreOfOne};
 ghost use Rattle.distinct_inputs.specs.Lists.{names_of};
 ghost use Rattle.distinct_inputs.specs.Images.{in_form};
@@ -178,8 +179,8 @@ fn whole(alloc: Global, bytes: Vec<u8>) -> Answer
     }
 }
 
-/// How the groups of lines are listed: by their images, or by their counts.
-fn listing_of(images: bool) -> Listing
+/// How groups are listed: by their images, or by their counts.
+pub fn listing_of(images: bool) -> Listing
     ensures { result ≡ listing_of images }
 {
     if images {

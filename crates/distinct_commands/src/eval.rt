@@ -238,7 +238,7 @@ impl<'a, S: Sources + Drop> Job<'a, S> {
     }
 
     /// The result of an expression over the sketches of the sources, which have its names in their order: sketches of
-    /// sums, or theta sketches.
+    /// sums, or theta sketches, or the results over the groups of the sources.
     pub fn evaluate<C: Console>(
         self,
         expression: &Expression<'_>,
@@ -256,6 +256,9 @@ impl<'a, S: Sources + Drop> Job<'a, S> {
     {
         if self.options.sums {
             return self.evaluate_sums(expression, console);
+        }
+        if self.options.groups {
+            return self.evaluate_groups(expression);
         }
         self.evaluate_theta(expression, console)
     }

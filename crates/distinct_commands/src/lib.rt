@@ -15,6 +15,7 @@
 mod combine;
 mod commands;
 mod eval;
+mod eval_groups;
 mod eval_sums;
 mod expression;
 mod groups;

@@ -76,7 +76,7 @@ fn remark_coarser<C: Console>(name: &str, retained: u64, lg_k: u8, console: &mut
 }
 
 /// The failure of files of groups that were not joined.
-fn join_failure<S: Sources>(alloc: Global, inputs: &Inputs<'_, S>, error: UniteError) -> Failure
+pub fn join_failure<S: Sources>(alloc: Global, inputs: &Inputs<'_, S>, error: UniteError) -> Failure
     ensures failed { (seed : ℕ) (texts : Option (List (List ℕ)))
         → IsJoinError seed texts error
         → IsOfJoin seed texts result }

@@ -600,6 +600,11 @@ fn writes_each_answer(rt: HostRuntime) -> Result<(), Fail> {
             SUMS,
             "01030901001acc93dc8d24339151380f0100000000000000\n",
         ),
+        (
+            &["eval", "--groups", "--hex", "(a + b) - a"],
+            GROUPS,
+            "\t1\na\t0\nbob\t0\n",
+        ),
         (&["visits", "a", "b"], TEXTS, "1: 1\n2: 2\n"),
         (
             &["sum", "--separator=;", "--field=1", "--value=2", "a", "b"],
