@@ -6,6 +6,7 @@ pub mod FirstItems
 pub mod Ranking
 pub mod ShownImages
 pub mod ShowFailures
+pub mod VisitFailures
 pub mod GroupLines
 pub mod GroupResults
 pub mod Answered
