@@ -15,7 +15,7 @@ use Rattle.keys_sketches.specs.declared.sketching.ReadError.TheVariants.{Refused
 use Rattle.tuple_sketches.specs.declared.numbers.SummaryMode.{SummaryMode}
 use Rattle.tuple_sketches.specs.declared.numbers.SummaryMode.TheVariants.{Sum, Min, Max}
 use Rattle.keys_sums.specs.Amounts.{added_by}
-use Rattle.keys_lines.specs.declared.key.Key.TheVariants.{Line, Field}
+use Rattle.keys_lines.specs.declared.key.Key.TheVariants.{Field}
 use Rattle.keys_sums.specs.Refusals.{HasNoNumberAt, IsPast}
 use Rattle.keys_sums.specs.declared.addends.Amount.{Amount}
 use Rattle.keys_sums.specs.declared.addends.Amount.TheVariants.{One, Number}
